@@ -4,8 +4,9 @@ use Prim.Native.Nat.{ℕ, _*_}
 use native.Mathlib.Omega.{arith}
 use native.Mathlib.Nat.{mul-le-mul-right, le-of-mul-le-mul-right, mul-lt-mul-of-pos-right}
 use lib.IntN.{ℤ, pos, negsuc, _+ℤ_, _-ℤ_, _*ℤ_, negℤ, *ℤ-comm, negℤ-negℤ, zero-*ℤ, *ℤ-zero}
-use lib.Signed.{_≤ℤ_, _<ℤ_}
-use Rattle.std.proofs.shelf.Signed.{by-ltZ}
+use mathlib.Core.Bool.{true, false}
+use lib.Signed.{leZ, _≤ℤ_, _<ℤ_}
+use Rattle.std.proofs.shelf.Signed.{by-ltZ, ints}
 use borrow.Author.Differences.{up, down, product-is, sum-is, neg-is, same-in, same-out, le-out, lt-out, below-in, at-most-in}
 
 -- `omega (arith, linear)`: linear arithmetic over ℤ in which each product is an unknown
@@ -67,3 +68,13 @@ product-not-negative {a} {b} h k = omega (arith, linear, times-grows b k h, zero
 
 pub product-positive : {a b : ℤ} → pos 0 <ℤ a → pos 0 <ℤ b → pos 0 <ℤ (a *ℤ b)
 product-positive {a} {b} h k = omega (arith, linear, times-grows-strictly b k h, zero-*ℤ b)
+
+-- an order as a test, and back
+pub le-test : {a b : ℤ} → a ≤ℤ b → leZ a b ≡ true
+le-test {a} {b} h = grind (arith, ints)
+
+pub test-le : {a b : ℤ} → leZ a b ≡ true → a ≤ℤ b
+test-le {a} {b} h = omega (arith, ints)
+
+pub test-gt : {a b : ℤ} → leZ a b ≡ false → b <ℤ a
+test-gt {a} {b} h = omega (arith, ints)

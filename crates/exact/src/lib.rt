@@ -1,0 +1,9 @@
+// Exact numbers: division that rounds down or up, one order for every kind of value, fractions and uncertainty sets.
+pub mod division;
+pub mod divisor;
+pub mod fraction;
+pub mod order;
+pub mod orders;
+pub mod quantity;
+pub mod set;
+pub mod sets;
