@@ -11,6 +11,13 @@ greatest-end = pos 100000000
 abbrev pub least-end : ℤ
 least-end = negℤ greatest-end
 
+-- the argument of a measurement
+abbrev pub greatest-argument : ℤ
+greatest-argument = pos 10000
+
+abbrev pub least-argument : ℤ
+least-argument = negℤ greatest-argument
+
 -- the numerator of a fraction
 abbrev pub greatest-numerator : ℤ
 greatest-numerator = pos 6000000000000
@@ -29,3 +36,7 @@ OutOfRange n d = ((n <ℤ least-numerator) ⊎ (greatest-numerator <ℤ n)) ⊎ 
 -- these two ends make no uncertainty set
 abbrev pub NoSet : ℤ → ℤ → Type 0
 NoSet l u = (l <ℤ least-end) ⊎ ((u <ℤ l) ⊎ (greatest-end <ℤ u))
+
+-- this number is no argument
+abbrev pub NoArgument : ℤ → Type 0
+NoArgument x = (x <ℤ least-argument) ⊎ (greatest-argument <ℤ x)

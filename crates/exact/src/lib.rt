@@ -1,4 +1,6 @@
-// Exact numbers: division that rounds down or up, one order for every kind of value, fractions and uncertainty sets.
+// Exact numbers: division that rounds down or up, one order for every kind of value, fractions, arguments and uncertainty sets.
+pub mod argument;
+pub mod arguments;
 pub mod division;
 pub mod divisor;
 pub mod fraction;

@@ -1,0 +1,2 @@
+// The 64 places of a register.
+pub mod place;
