@@ -1,9 +1,10 @@
 -- Rational numbers of any size, compared by multiplying across.
 use mathlib.Core.Path.{_≡_}
 use native.Mathlib.Omega.{arith}
-use lib.IntN.{ℤ, pos, _*ℤ_, negℤ}
+use lib.IntN.{ℤ, pos, _+ℤ_, _*ℤ_, negℤ}
 use lib.Signed.{_≤ℤ_, _<ℤ_}
 use Rattle.std.proofs.shelf.Signed.{ints}
+use Rattle.algebra.proofs.Ring.{product-positive}
 
 -- a whole number over a whole number from 1 up
 pub record Rational : Type 0 where
@@ -32,3 +33,9 @@ whole n = record { num = n; den = pos 1; above = omega (arith, ints) }
 -- the same distance from 0 on the other side
 abbrev pub opposite : Rational → Rational
 opposite a = record { num = negℤ (a .num); den = a .den; above = a .above }
+
+abbrev pub plus : Rational → Rational → Rational
+plus a b = record { num = a .num *ℤ b .den +ℤ b .num *ℤ a .den; den = a .den *ℤ b .den; above = product-positive (a .above) (b .above) }
+
+abbrev pub times : Rational → Rational → Rational
+times a b = record { num = a .num *ℤ b .num; den = a .den *ℤ b .den; above = product-positive (a .above) (b .above) }

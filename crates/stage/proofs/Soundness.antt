@@ -5,7 +5,9 @@ use native.Mathlib.Omega.{arith}
 use lib.IntN.{ℤ}
 use lib.Signed.{_≤ℤ_}
 use Rattle.algebra.proofs.Ring.{linear}
-use Rattle.stage.specs.Meaning.{Meaning, Sound}
+use Rattle.std.proofs.shelf.Signed.{ints}
+use Rattle.exact.specs.Limits.{least-end, greatest-end}
+use Rattle.stage.specs.Meaning.{Meaning, Sound, inLimits, single}
 use Rattle.stage.specs.Chains.{chained}
 
 pub both : (a b c : Bool) → (a && (b && c)) ≡ true → (a ≡ true) × (b ≡ true) × (c ≡ true)
@@ -43,3 +45,22 @@ module _ (u l : Meaning) (su : Sound u) (sl : Sound l) where
         let p = parts a ha in let q = parts b hb in let up = su .rising a b ab (p .0) (q .0) in
         (sl .rising (u .lower a) (u .lower b) (up .0) (p .1) (q .1) .0, sl .rising (u .upper a) (u .upper b) (up .1) (p .2) (q .2) .1);
     }
+
+both-in : (l u : ℤ) → (inLimits l && inLimits u) ≡ true → (least-end ≤ℤ l) × (u ≤ℤ greatest-end)
+both-in l u h = (grind (arith, ints), grind (arith, ints))
+
+in-both : (l u : ℤ) → least-end ≤ℤ l → l ≤ℤ u → u ≤ℤ greatest-end → (inLimits l && inLimits u) ≡ true
+in-both l u a b c = grind (arith, ints)
+
+-- a single stage is sound where no lower end is above its upper end, and where neither end falls as the reading rises
+pub single-sound : (l u : ℤ → ℤ) → ((r : ℤ) → l r ≤ℤ u r) → ((a b : ℤ) → a ≤ℤ b → l a ≤ℤ l b) → ((a b : ℤ) → a ≤ℤ b → u a ≤ℤ u b) → Sound (single l u)
+single-sound l u o ml mu = record {
+    ordered = λ r h. o r;
+    within = λ r h. both-in (l r) (u r) h;
+    between = λ a b c ab bc ha hc.
+      in-both (l b) (u b)
+        (let p = both-in (l a) (u a) ha .0 in let q = ml a b ab in omega (arith, linear))
+        (o b)
+        (let p = both-in (l c) (u c) hc .1 in let q = mu b c bc in omega (arith, linear));
+    rising = λ a b ab ha hb. (ml a b ab, mu a b ab);
+  }

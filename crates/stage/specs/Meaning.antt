@@ -1,9 +1,9 @@
 -- The meaning of a stage, and the facts that make it a sound one.
 use mathlib.Core.Path.{_≡_}
-use mathlib.Core.Bool.{Bool, true, cond}
+use mathlib.Core.Bool.{Bool, true, cond, _&&_}
 use Prim.Native.Nat.{ℕ, min}
 use lib.IntN.{ℤ}
-use lib.Signed.{_≤ℤ_}
+use lib.Signed.{leZ, _≤ℤ_}
 use Rattle.std.specs.declared.result.Result.{Result}
 use Rattle.std.specs.declared.result.Result.the-variants.{Ok, Err}
 use Rattle.refusal.specs.declared.refusal.Refusal.{Refusal}
@@ -40,3 +40,18 @@ answer m r = cond (m .taken r) (Ok (m .lower r, m .upper r)) (Err (ReadingNotTak
 abbrev pub ends : Result UncertaintySet Refusal → Result (ℤ × ℤ) Refusal
 ends (Ok s) = Ok (s .lower, s .upper)
 ends (Err e) = Err e
+
+-- whether an end lies within the limits
+abbrev pub inLimits : ℤ → Bool
+inLimits z = leZ least-end z && leZ z greatest-end
+
+-- a single stage that takes exactly the readings whose ends both lie within the limits
+abbrev pub single : (ℤ → ℤ) → (ℤ → ℤ) → Meaning
+single l u = record {
+    count = 1;
+    taken = λ r. inLimits (l r) && inLimits (u r);
+    lower = l;
+    upper = u;
+    place = λ r. 1;
+    value = λ r. r;
+  }

@@ -2,4 +2,5 @@
 pub mod chain;
 pub mod chained;
 pub mod measure;
+pub mod single;
 pub mod stage;
