@@ -1,0 +1,3 @@
+// A stage whose error is bounded by an absolute and a relative limit.
+pub mod bounded;
+pub mod ends;
