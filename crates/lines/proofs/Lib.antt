@@ -1,2 +1,6 @@
 pub mod Members
 pub mod Possible
+pub mod Slopes
+pub mod Parts
+pub mod Consistency
+pub mod Pairs
