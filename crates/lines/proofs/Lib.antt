@@ -4,3 +4,5 @@ pub mod Slopes
 pub mod Parts
 pub mod Consistency
 pub mod Pairs
+pub mod Triples
+pub mod Named
