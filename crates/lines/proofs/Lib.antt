@@ -6,3 +6,5 @@ pub mod Consistency
 pub mod Pairs
 pub mod Triples
 pub mod Named
+pub mod Steepest
+pub mod Threes

@@ -23,8 +23,8 @@ under-high p d j i h = simp ring (omega (arith, linear, simp ring at h))
 leaves-under-high : (p d : ℤ) (j i : Measurement) → (p *ℤ (i .argument -ℤ j .argument)) ≤ℤ ((i .upper -ℤ j .lower) *ℤ d) → Leaves p d j i
 leaves-under-high p d j i h = simp ring (omega (arith, linear, simp ring at h))
 
--- at one argument any slope leaves room, or none does
-level : (p : ℤ) (a b : Measurement) → a .argument ≡ b .argument → p *ℤ (a .argument -ℤ b .argument) ≡ pos 0
+-- at one argument no slope rises
+pub level : (p : ℤ) (a b : Measurement) → a .argument ≡ b .argument → p *ℤ (a .argument -ℤ b .argument) ≡ pos 0
 level p a b e = let z : a .argument -ℤ b .argument ≡ pos 0 = omega (arith, linear) in rw (z, *ℤ-zero)
 
 module _ (s : List Measurement) where
