@@ -8,3 +8,4 @@ pub mod Triples
 pub mod Named
 pub mod Steepest
 pub mod Threes
+pub mod Serials

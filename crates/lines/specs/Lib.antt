@@ -1,2 +1,3 @@
 pub mod Sheet
 pub mod Slopes
+pub mod Serials
