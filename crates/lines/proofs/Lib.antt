@@ -9,3 +9,5 @@ pub mod Named
 pub mod Steepest
 pub mod Threes
 pub mod Serials
+pub mod Mirror
+pub mod Unbounded

@@ -1,3 +1,4 @@
 pub mod Sheet
 pub mod Slopes
 pub mod Serials
+pub mod Mirror
