@@ -11,3 +11,5 @@ pub mod Threes
 pub mod Serials
 pub mod Mirror
 pub mod Unbounded
+pub mod Values
+pub mod Virtual
