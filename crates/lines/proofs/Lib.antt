@@ -13,3 +13,4 @@ pub mod Mirror
 pub mod Unbounded
 pub mod Values
 pub mod Virtual
+pub mod ValueBounds

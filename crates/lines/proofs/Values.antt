@@ -51,16 +51,37 @@ module _ (m : Measurement) (w : ℤ) where
       up : (y *ℤ w) ≤ℤ ((m .upper *ℤ d) *ℤ w) → (y *ℤ w) ≤ℤ ((m .upper *ℤ w) *ℤ d)
       up h = simp ring (omega (arith, linear, simp ring at h))
 
--- the high value, by where x stands
+pub least-up : (m : Measurement) (w : ℤ) → pos 0 ≤ℤ w → least m w ≡ m .lower *ℤ w
+least-up m w h = omega (arith, linear, most-mirrored m w, most-up (mirrored m) w h, neg-left (m .lower) w)
+
+pub least-down : (m : Measurement) (w : ℤ) → w ≤ℤ pos 0 → least m w ≡ m .upper *ℤ w
+least-down m w h = omega (arith, linear, most-mirrored m w, most-down (mirrored m) w h, neg-left (m .upper) w)
+
+-- the high and the low value, by where x stands
 module _ (j i : Measurement) (h : Rises j i) (x : ℤ) where
+  abbrev left : ℤ
+  left = i .argument -ℤ x
+
+  abbrev right : ℤ
+  right = x -ℤ j .argument
+
   pub high-between : j .argument ≤ℤ x → x ≤ℤ i .argument → highValue j i h x .num ≡ j .upper *ℤ (i .argument -ℤ x) +ℤ i .upper *ℤ (x -ℤ j .argument)
-  high-between jx xi = λ n. most-up j (i .argument -ℤ x) (omega (arith, linear)) n +ℤ most-up i (x -ℤ j .argument) (omega (arith, linear)) n
+  high-between jx xi = λ n. most-up j left (omega (arith, linear)) n +ℤ most-up i right (omega (arith, linear)) n
 
   pub high-beyond : i .argument ≤ℤ x → highValue j i h x .num ≡ j .lower *ℤ (i .argument -ℤ x) +ℤ i .upper *ℤ (x -ℤ j .argument)
-  high-beyond ix = λ n. most-down j (i .argument -ℤ x) (omega (arith, linear)) n +ℤ most-up i (x -ℤ j .argument) (omega (arith, linear)) n
+  high-beyond ix = λ n. most-down j left (omega (arith, linear)) n +ℤ most-up i right (omega (arith, linear)) n
 
   pub high-before : x ≤ℤ j .argument → highValue j i h x .num ≡ j .upper *ℤ (i .argument -ℤ x) +ℤ i .lower *ℤ (x -ℤ j .argument)
-  high-before xj = λ n. most-up j (i .argument -ℤ x) (omega (arith, linear)) n +ℤ most-down i (x -ℤ j .argument) (omega (arith, linear)) n
+  high-before xj = λ n. most-up j left (omega (arith, linear)) n +ℤ most-down i right (omega (arith, linear)) n
+
+  pub low-between : j .argument ≤ℤ x → x ≤ℤ i .argument → lowValue j i h x .num ≡ j .lower *ℤ (i .argument -ℤ x) +ℤ i .lower *ℤ (x -ℤ j .argument)
+  low-between jx xi = λ n. least-up j left (omega (arith, linear)) n +ℤ least-up i right (omega (arith, linear)) n
+
+  pub low-beyond : i .argument ≤ℤ x → lowValue j i h x .num ≡ j .upper *ℤ (i .argument -ℤ x) +ℤ i .lower *ℤ (x -ℤ j .argument)
+  low-beyond ix = λ n. least-down j left (omega (arith, linear)) n +ℤ least-up i right (omega (arith, linear)) n
+
+  pub low-before : x ≤ℤ j .argument → lowValue j i h x .num ≡ j .lower *ℤ (i .argument -ℤ x) +ℤ i .upper *ℤ (x -ℤ j .argument)
+  low-before xj = λ n. least-up j left (omega (arith, linear)) n +ℤ least-down i right (omega (arith, linear)) n
 
 -- the value at x out of the values at two arguments
 weighed : (p q a b x : ℤ) → (p *ℤ x +ℤ q) *ℤ (b -ℤ a) ≡ (p *ℤ a +ℤ q) *ℤ (b -ℤ x) +ℤ (p *ℤ b +ℤ q) *ℤ (x -ℤ a)
