@@ -14,3 +14,4 @@ pub mod Unbounded
 pub mod Values
 pub mod Virtual
 pub mod ValueBounds
+pub mod Candidates

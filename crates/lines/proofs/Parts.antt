@@ -1,10 +1,8 @@
 -- What is some of a sheet is met by every line that meets the sheet.
-use mathlib.Core.Path.{_≡_}
 use mathlib.Core.List.{List}
 use Rattle.std.specs.shelf.Lists.{Has, All}
 use Rattle.std.proofs.shelf.Elements.{all-has}
-use Rattle.lines.specs.Sheet.{Measurement, Consistent, Conflict, OneArgument}
-use Rattle.lines.specs.Slopes.{PairsMeet}
+use Rattle.lines.specs.Sheet.{Measurement, Consistent, Conflict}
 
 module _ (s t : List Measurement) (some : All (Has s) t) where
   within : (m : Measurement) → Has t m → Has s m
@@ -15,6 +13,3 @@ module _ (s t : List Measurement) (some : All (Has s) t) where
 
   pub conflict-whole : Conflict t → Conflict s
   conflict-whole never c = never (consistent-part c)
-
-  pub pairs-meet-part : PairsMeet s → PairsMeet t
-  pairs-meet-part meet a b atA atB = meet a b (within a atA) (within b atB)

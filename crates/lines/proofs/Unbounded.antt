@@ -44,9 +44,15 @@ module _ (f : Line → Rational) (x k t : ℤ) (gains : pos 0 <ℤ t) (grows : (
   no-least odd s here b least =
       no-greatest (map mirrored s) (each-of-map (λ m. m .argument ≡ x) mirrored s here) (opposite b) (greatest-in-mirror s f odd b least)
 
+pub none-at : (x : ℤ) → AllAt [] x
+none-at x m at = has-none m at
+
+pub all-at : (s : List Measurement) → OneArgument s → (m : Measurement) → Has s m → AllAt s (m .argument)
+all-at s one m at k atK = one k m atK at
+
 one-at : (s : List Measurement) → OneArgument s → (x : ℤ) × AllAt s x
-one-at [] one = (pos 0, λ m at. has-none m at)
-one-at (m ∷ s) one = (m .argument, λ k at. one k m at (has-first m s))
+one-at [] one = (pos 0, none-at (pos 0))
+one-at (m ∷ s) one = (m .argument, all-at (m ∷ s) one m (has-first m s))
 
 module _ (s : List Measurement) (one : OneArgument s) (b : Rational) where
   pub no-greatest-slope : Greatest slope s b → ⊥
