@@ -1,10 +1,8 @@
 -- The least of a quantity on a sheet is the opposite of the greatest on the mirrored sheet.
 use mathlib.Core.Path.{_≡_, refl, sym, ap, subst}
-use mathlib.Core.Logic.{_↔_}
 use mathlib.Core.List.{List, map}
 use native.Mathlib.Omega.{arith}
-use lib.IntN.{ℤ, pos, _+ℤ_, _*ℤ_, negℤ}
-use lib.Signed.{_≤ℤ_}
+use lib.IntN.{ℤ, _+ℤ_, _*ℤ_, negℤ}
 use Rattle.algebra.proofs.Ring.{linear, neg-left}
 use Rattle.rational.specs.Rational.{Rational, _≼_, _≈_, opposite}
 use Rattle.rational.specs.Line.{Line, slope, valueAt}

@@ -1,10 +1,10 @@
 -- A low slope passes a high slope only where three of the four measurements conflict, and the chords name them.
 use mathlib.Core.List.{List, [], _∷_}
 use native.Mathlib.Omega.{arith}
-use lib.IntN.{ℤ, _-ℤ_, _*ℤ_}
+use lib.IntN.{ℤ}
 use lib.Signed.{_≤ℤ_, _<ℤ_}
 use Rattle.algebra.proofs.Ring.{linear, ring}
-use Rattle.algebra.proofs.Normal.{Expr, var, _⊕_, _⊖_, _⊗_, adds-up}
+use Rattle.algebra.proofs.Normal.{var, _⊕_, _⊖_, _⊗_, adds-up}
 use Rattle.rational.specs.Rational.{_≼_, _≺_}
 use Rattle.lines.specs.Sheet.{Measurement, Conflict}
 use Rattle.lines.specs.Slopes.{Rises, lowSlope, highSlope, LowChord, HighChord}

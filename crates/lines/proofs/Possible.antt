@@ -1,17 +1,14 @@
 -- Which slopes are possible for a sheet: those between the low and the high slope of each pair.
-use mathlib.Core.Path.{_≡_, ap}
-use mathlib.Core.Logic.{_↔_, _⊎_, inl, inr, ⊎-elim}
+use mathlib.Core.Logic.{_↔_, inl, ⊎-elim}
 use mathlib.Core.List.{List}
 use native.Mathlib.Omega.{arith}
-use lib.IntN.{ℤ, pos, _+ℤ_, _-ℤ_, _*ℤ_, zero-*ℤ, *ℤ-zero}
+use lib.IntN.{ℤ, pos, _+ℤ_, _-ℤ_, _*ℤ_}
 use lib.Signed.{_≤ℤ_, _<ℤ_, ≤ℤ-refl}
 use Rattle.std.specs.shelf.Lists.{Has}
-use Rattle.std.proofs.shelf.Signed.{by-ltZ}
-use Rattle.algebra.proofs.Ring.{linear, ring, times-grows, cancel, one-right}
-use Rattle.rational.specs.Rational.{Rational, _≼_, whole}
-use Rattle.rational.specs.Line.{Line, slope}
-use Rattle.lines.specs.Sheet.{Measurement, Meets, Admissible, Consistent}
-use Rattle.lines.specs.Slopes.{Rises, lowSlope, highSlope, PairsMeet}
+use Rattle.algebra.proofs.Ring.{linear, ring, cancel, one-right}
+use Rattle.rational.specs.Rational.{whole}
+use Rattle.rational.specs.Line.{Line}
+use Rattle.lines.specs.Sheet.{Measurement, Meets, Admissible}
 use Rattle.lines.proofs.Members.{best}
 
 -- the slope p / d leaves room for i's lower and j's upper end

@@ -1,5 +1,4 @@
 -- A sheet has one argument alone, or a pair with the greatest low slope.
-use mathlib.Core.Path.{_≡_}
 use mathlib.Core.Logic.{_⊎_, inl, inr, ⊎-elim}
 use mathlib.Core.List.{List}
 use native.Mathlib.Omega.{arith}

@@ -1,17 +1,15 @@
 -- Three measurements: a line that meets them keeps both chords, and the chords of three at a time keep a low slope under a high one.
-use mathlib.Core.Path.{_≡_}
-use mathlib.Core.List.{List, [], _∷_}
+use mathlib.Core.List.{[], _∷_}
 use native.Mathlib.Omega.{arith}
-use lib.IntN.{ℤ, pos, _+ℤ_, _-ℤ_, _*ℤ_}
+use lib.IntN.{pos, _+ℤ_, _-ℤ_, _*ℤ_}
 use lib.Signed.{_≤ℤ_, _<ℤ_}
 use Rattle.std.proofs.shelf.Elements.{all-has-itself}
-use Rattle.algebra.proofs.Ring.{linear, ring}
-use Rattle.algebra.proofs.Normal.{Expr, var, con, _⊕_, _⊖_, _⊗_, adds-up}
-use Rattle.rational.specs.Rational.{_≼_, _≺_, whole}
+use Rattle.algebra.proofs.Ring.{linear}
+use Rattle.algebra.proofs.Normal.{var, con, _⊕_, _⊖_, _⊗_, adds-up}
+use Rattle.rational.specs.Rational.{_≼_, whole}
 use Rattle.rational.specs.Line.{Line, valueAt}
 use Rattle.lines.specs.Sheet.{Measurement, Consistent, Conflict}
-use Rattle.lines.specs.Slopes.{Rises, lowSlope, highSlope, LowChord, HighChord}
-use Rattle.lines.proofs.Possible.{drawn}
+use Rattle.lines.specs.Slopes.{LowChord, HighChord}
 
 -- the line does not pass below the set, or not above it
 abbrev pub Over : Line → Measurement → Type 0

@@ -1,10 +1,9 @@
 -- The greatest value at an argument is the least of the high values, and the least value the greatest of the low values.
 use mathlib.Core.Path.{_≡_, ap}
-use mathlib.Core.Logic.{_⊎_, inl, inr, ⊎-elim}
+use mathlib.Core.Logic.{inl, inr, ⊎-elim}
 use mathlib.Core.List.{List, map}
 use native.Mathlib.Omega.{arith}
 use lib.IntN.{ℤ, pos, _+ℤ_, _-ℤ_, _*ℤ_, negℤ}
-use lib.Signed.{_≤ℤ_}
 use Rattle.std.specs.shelf.Lists.{Has}
 use Rattle.algebra.proofs.Ring.{linear, neg-left}
 use Rattle.rational.specs.Rational.{Rational, _≼_, whole, opposite}
@@ -13,7 +12,7 @@ use Rattle.rational.proofs.Order.{≼-trans}
 use Rattle.lines.specs.Sheet.{Measurement, Admissible, Consistent, Greatest, Least}
 use Rattle.lines.specs.Slopes.{Rises}
 use Rattle.lines.specs.Mirror.{mirrored}
-use Rattle.lines.specs.Values.{highValue, lowValue, LeastHighValue, GreatestLowValue, most, least}
+use Rattle.lines.specs.Values.{highValue, lowValue, LeastHighValue, GreatestLowValue}
 use Rattle.lines.proofs.Members.{has-map, each-of-map}
 use Rattle.lines.proofs.Mirror.{mirror-consistent, least-from-mirror, value-odd}
 use Rattle.lines.proofs.Values.{value-under-pair, most-mirrored}

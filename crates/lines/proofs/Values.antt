@@ -1,13 +1,12 @@
 -- What two measurements allow at an argument, and that no line that meets them passes it.
-use mathlib.Core.Path.{_≡_, refl, ap, sym, _∙_}
+use mathlib.Core.Path.{_≡_, refl}
 use mathlib.Core.Bool.{Bool, true, false, cond}
-use mathlib.Core.List.{List, [], _∷_}
 use native.Mathlib.Omega.{arith}
 use lib.IntN.{ℤ, pos, _+ℤ_, _-ℤ_, _*ℤ_, negℤ, *ℤ-zero}
-use lib.Signed.{ltZ, _≤ℤ_, _<ℤ_}
+use lib.Signed.{ltZ, _≤ℤ_}
 use Rattle.std.proofs.shelf.Signed.{by-ltZ, ints}
 use Rattle.algebra.proofs.Ring.{linear, ring, times-grows, distrib-right, neg-left}
-use Rattle.rational.specs.Rational.{_≼_, whole}
+use Rattle.rational.specs.Rational.{_≼_}
 use Rattle.rational.specs.Line.{Line, valueAt}
 use Rattle.lines.specs.Sheet.{Measurement, Meets}
 use Rattle.lines.specs.Slopes.{Rises}

@@ -9,13 +9,13 @@ use Rattle.std.specs.shelf.Lists.{Has}
 use Rattle.algebra.proofs.Ring.{linear, ring, times-grows, cancel, one-right, assoc, product-positive}
 use Rattle.rational.specs.Rational.{Rational, _≼_, _≈_, whole}
 use Rattle.rational.specs.Line.{Line, valueAt}
-use Rattle.lines.specs.Sheet.{Measurement, Meets, Admissible, Consistent}
-use Rattle.lines.specs.Slopes.{Rises, PairsMeet, LowChord, HighChord}
+use Rattle.lines.specs.Sheet.{Measurement, Admissible}
+use Rattle.lines.specs.Slopes.{Rises, LowChord, HighChord}
 use Rattle.lines.specs.Values.{highValue}
 use Rattle.lines.proofs.Members.{has-first, has-next, has-map, each-of-more, each-of-map}
 use Rattle.lines.proofs.Possible.{meets-in, meets-out}
 use Rattle.lines.proofs.Triples.{Over, Under, low-chord, high-chord}
-use Rattle.lines.proofs.Threes.{ChordsKept, chords-consistent}
+use Rattle.lines.proofs.Threes.{chords-consistent}
 use Rattle.lines.proofs.Values.{high-between, high-beyond, high-before}
 
 -- all ends times e
