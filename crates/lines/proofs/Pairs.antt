@@ -29,7 +29,8 @@ through a b h =
       (meets-in p d above q a (omega (arith, linear)) (omega (arith, linear, wide a)),
        (meets-in p d above q b (omega (arith, linear)) (omega (arith, linear, wide b)), tt)) at)
 
-pub two-consistent : (a b : Measurement) → (a .argument ≡ b .argument → a .lower ≤ℤ b .upper) → (a .argument ≡ b .argument → b .lower ≤ℤ a .upper) → Consistent (a ∷ b ∷ [])
+pub two-consistent : (a b : Measurement) → (a .argument ≡ b .argument → a .lower ≤ℤ b .upper) → (a .argument ≡ b .argument → b .lower ≤ℤ a .upper)
+  → Consistent (a ∷ b ∷ [])
 two-consistent a b below above =
     by-ltZ (a .argument) (b .argument) (through a b) (λ le.
     by-ltZ (b .argument) (a .argument)
@@ -41,7 +42,8 @@ two-consistent a b below above =
         let Meet : Measurement → Type 0 = λ m. (k : Measurement) → Has t k → m .lower ≤ℤ k .upper in
         consistent-flat t
           (λ m k atM atK _. all-has Meet t m
-            ((λ k at. all-has (λ k. a .lower ≤ℤ k .upper) t k (a .ordered, (below e, tt)) at), ((λ k at. all-has (λ k. b .lower ≤ℤ k .upper) t k (above e, (b .ordered, tt)) at), tt)) atM k atK)
+            ((λ k at. all-has (λ k. a .lower ≤ℤ k .upper) t k (a .ordered, (below e, tt)) at),
+             ((λ k at. all-has (λ k. b .lower ≤ℤ k .upper) t k (above e, (b .ordered, tt)) at), tt)) atM k atK)
           (λ m k atM atK. here m atM ∙ sym (here k atK))))
 
 -- their sets lie apart
@@ -50,9 +52,12 @@ Apart a b = (a .argument ≡ b .argument) × ((a .upper <ℤ b .lower) ⊎ (b .u
 
 pub two-conflict : (a b : Measurement) → Conflict (a ∷ b ∷ []) ↔ Apart a b
 two-conflict a b =
-    ((λ never. by-ltZ (a .argument) (b .argument) (λ h. absurd (never (two-consistent a b (λ e. absurd (omega (arith, linear))) (λ e. absurd (omega (arith, linear))))))
-        (λ le. by-ltZ (b .argument) (a .argument) (λ h. absurd (never (two-consistent a b (λ e. absurd (omega (arith, linear))) (λ e. absurd (omega (arith, linear))))))
-          (λ ge. (omega (arith, linear), by-ltZ (a .upper) (b .lower) inl (λ above. by-ltZ (b .upper) (a .lower) inr (λ below. absurd (never (two-consistent a b (λ _. below) (λ _. above))))))))),
+    ((λ never.
+        let level : a .argument ≡ b .argument =
+              by-ltZ (a .argument) (b .argument) (λ h. absurd (never (two-consistent a b (λ e. absurd (omega (arith, linear))) (λ e. absurd (omega (arith, linear)))))) (λ le.
+              by-ltZ (b .argument) (a .argument) (λ h. absurd (never (two-consistent a b (λ e. absurd (omega (arith, linear))) (λ e. absurd (omega (arith, linear)))))) (λ ge.
+              omega (arith, linear))) in
+        (level, by-ltZ (a .upper) (b .lower) inl (λ above. by-ltZ (b .upper) (a .lower) inr (λ below. absurd (never (two-consistent a b (λ _. below) (λ _. above))))))),
      (λ apart together.
         let (atA, (atB, _)) = all-has-itself (a ∷ b ∷ []) in
         let meet = consistent-pairs-meet (a ∷ b ∷ []) together in

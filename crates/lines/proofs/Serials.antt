@@ -18,7 +18,8 @@ pub alone : (a : Measurement) → Consistent (a ∷ [])
 alone a =
     let above : pos 0 <ℤ pos 1 = omega (arith, linear) in
     let flat = drawn (pos 0) (pos 1) above (a .lower) in
-    let met = meets-in (pos 0) (pos 1) above (a .lower) a (omega (arith, linear, zero-*ℤ (a .argument), one-right (a .lower))) (omega (arith, linear, zero-*ℤ (a .argument), one-right (a .upper), a .ordered)) in
+    let met = meets-in (pos 0) (pos 1) above (a .lower) a
+          (omega (arith, linear, zero-*ℤ (a .argument), one-right (a .lower))) (omega (arith, linear, zero-*ℤ (a .argument), one-right (a .upper))) in
     (flat, λ m at. all-has (Meets flat) (a ∷ []) m (met, tt) at)
 
 module _ (s : List Measurement) (distinct : DistinctSerials s) where

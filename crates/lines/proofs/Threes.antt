@@ -3,7 +3,7 @@ use mathlib.Core.Path.{_≡_, sym, ap}
 use mathlib.Core.Logic.{⊎-elim}
 use mathlib.Core.List.{List, [], _∷_}
 use native.Mathlib.Omega.{arith}
-use lib.IntN.{_-ℤ_, _*ℤ_}
+use lib.IntN.{pos, _-ℤ_, _*ℤ_}
 use lib.Signed.{_≤ℤ_, _<ℤ_}
 use Rattle.std.specs.shelf.Lists.{Has}
 use Rattle.std.proofs.shelf.Signed.{by-ltZ}
@@ -25,15 +25,17 @@ module _ (s : List Measurement) (meet : PairsMeet s) (kept : ChordsKept s) where
   -- the chords where the middle one may share its argument with another
   module _ (a b c : Measurement) (atA : Has s a) (atB : Has s b) (atC : Has s c) (ab : a .argument ≤ℤ b .argument) (bc : b .argument ≤ℤ c .argument) where
     chords : LowChord a b c × HighChord a b c
-    chords = by-ltZ (a .argument) (b .argument)
-        (λ lt. by-ltZ (b .argument) (c .argument)
-          (λ gt. kept a b c atA atB atC lt gt)
-          (λ le. let e : b .argument ≡ c .argument = omega (arith, linear) in
-            (omega (arith, linear, times-grows (c .argument -ℤ a .argument) (omega (arith, linear)) (meet c b atC atB (sym e)), level (a .lower) c b (sym e), ap (λ x. c .lower *ℤ (x -ℤ a .argument)) e),
-             omega (arith, linear, times-grows (c .argument -ℤ a .argument) (omega (arith, linear)) (meet b c atB atC e), level (a .upper) c b (sym e), ap (λ x. c .upper *ℤ (x -ℤ a .argument)) e))))
-        (λ le. let e : a .argument ≡ b .argument = omega (arith, linear) in
-          (omega (arith, linear, times-grows (c .argument -ℤ a .argument) (omega (arith, linear)) (meet a b atA atB e), level (c .lower) b a (sym e), ap (λ x. a .lower *ℤ (c .argument -ℤ x)) e),
-           omega (arith, linear, times-grows (c .argument -ℤ a .argument) (omega (arith, linear)) (meet b a atB atA (sym e)), level (c .upper) b a (sym e), ap (λ x. a .upper *ℤ (c .argument -ℤ x)) e)))
+    chords =
+        let w = c .argument -ℤ a .argument in
+        let wide : pos 0 ≤ℤ w = omega (arith, linear) in
+        by-ltZ (a .argument) (b .argument)
+          (λ lt. by-ltZ (b .argument) (c .argument) (kept a b c atA atB atC lt)
+            (λ le. let e : b .argument ≡ c .argument = omega (arith, linear) in
+              (omega (arith, linear, times-grows w wide (meet c b atC atB (sym e)), level (a .lower) c b (sym e), ap (λ x. c .lower *ℤ (x -ℤ a .argument)) e),
+               omega (arith, linear, times-grows w wide (meet b c atB atC e), level (a .upper) c b (sym e), ap (λ x. c .upper *ℤ (x -ℤ a .argument)) e))))
+          (λ le. let e : a .argument ≡ b .argument = omega (arith, linear) in
+            (omega (arith, linear, times-grows w wide (meet a b atA atB e), level (c .lower) b a (sym e), ap (λ x. a .lower *ℤ (c .argument -ℤ x)) e),
+             omega (arith, linear, times-grows w wide (meet b a atB atA (sym e)), level (c .upper) b a (sym e), ap (λ x. a .upper *ℤ (c .argument -ℤ x)) e)))
 
   pub chords-consistent : Consistent s
   chords-consistent = ⊎-elim (consistent-flat s meet) (λ top.

@@ -51,7 +51,8 @@ module _ (n e : ℤ) (j i : Measurement) (h : Rises j i) (x : ℤ) (le : (n *ℤ
       let f = subst (λ z. (n *ℤ (i .argument -ℤ j .argument)) ≤ℤ (z *ℤ e)) (high-beyond j i h x ix) le in
       simp ring (omega (arith, linear, simp ring at f))
 
-  chord-between : j .argument ≤ℤ x → x ≤ℤ i .argument → (n *ℤ (i .argument -ℤ j .argument)) ≤ℤ ((j .upper *ℤ e) *ℤ (i .argument -ℤ x) +ℤ (i .upper *ℤ e) *ℤ (x -ℤ j .argument))
+  chord-between : j .argument ≤ℤ x → x ≤ℤ i .argument
+    → (n *ℤ (i .argument -ℤ j .argument)) ≤ℤ ((j .upper *ℤ e) *ℤ (i .argument -ℤ x) +ℤ (i .upper *ℤ e) *ℤ (x -ℤ j .argument))
   chord-between jx xi =
       let f = subst (λ z. (n *ℤ (i .argument -ℤ j .argument)) ≤ℤ (z *ℤ e)) (high-between j i h x jx xi) le in
       simp ring (omega (arith, linear, simp ring at f))
