@@ -1,0 +1,17 @@
+pub mod Members
+pub mod Possible
+pub mod Slopes
+pub mod Parts
+pub mod Consistency
+pub mod Pairs
+pub mod Triples
+pub mod Named
+pub mod Steepest
+pub mod Threes
+pub mod Serials
+pub mod Mirror
+pub mod Unbounded
+pub mod Values
+pub mod Virtual
+pub mod ValueBounds
+pub mod Candidates

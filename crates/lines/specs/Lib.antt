@@ -1,1 +1,5 @@
 pub mod Sheet
+pub mod Slopes
+pub mod Serials
+pub mod Mirror
+pub mod Values
