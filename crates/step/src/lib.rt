@@ -1,0 +1,3 @@
+// A display that shows whole steps.
+pub mod ends;
+pub mod step;
