@@ -17,10 +17,12 @@ fn show(rt: &impl Print, chain: &Chain<Step, Bounded>, line: &str) -> io::Result
     };
     match chain.ask(reading) {
         Ok((lower, upper)) => println!(rt, "{reading}: from {lower} to {upper}"),
-        Err(Refusal::ReadingNotTaken { place, value }) => println!(rt, "{reading}: not taken at place {place}, which was handed {value}"),
         Err(refusal) => {
             let number = refusal.number();
-            println!(rt, "{reading}: refused {number}")
+            match refusal {
+                Refusal::ReadingNotTaken { place, value } => println!(rt, "{reading}: refused {number} at place {place}, which was handed {value}"),
+                _ => println!(rt, "{reading}: refused {number}"),
+            }
         }
     }
 }
