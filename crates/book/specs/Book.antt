@@ -1,18 +1,16 @@
 -- The bench book: what each call leaves in it, and what the call is told. It is fed the meaning of the stages, the channel's number
 -- and what each call is passed, and nothing from the program.
-use mathlib.Core.Bool.{Bool, true, false, cond, not, _&&_}
+use mathlib.Core.Bool.{Bool, true, false, cond, not}
 use mathlib.Core.List.{List, [], _∷_}
 use Prim.Native.Nat.{ℕ, _+_}
 use lib.Dec.{eqb, ltb}
 use lib.IntN.{ℤ}
 use lib.ListN.{getD, set, replicate}
-use lib.Signed.{leZ}
 use Rattle.std.specs.shelf.Lists.{leading, countBy}
 use Rattle.std.specs.declared.option.Option.{Option}
 use Rattle.std.specs.declared.option.Option.the-variants.{Some, None}
 use Rattle.std.specs.declared.result.Result.{Result}
 use Rattle.std.specs.declared.result.Result.the-variants.{Ok, Err}
-use Rattle.exact.specs.Limits.{least-argument, greatest-argument}
 use Rattle.refusal.specs.declared.refusal.Refusal.{Refusal}
 use Rattle.refusal.specs.declared.refusal.Refusal.the-variants as refusal
 use Rattle.stage.specs.Meaning.{Meaning, answer}
@@ -21,6 +19,8 @@ use Rattle.book.specs.declared.call.Call.{Call}
 use Rattle.book.specs.declared.call.Call.the-variants as call
 use Rattle.book.specs.declared.answer.Answer.{Answer}
 use Rattle.book.specs.declared.answer.Answer.the-variants as answer
+use Rattle.book.specs.Limits.{place-count, last-serial, within}
+use Rattle.book.specs.Rows.{Row}
 
 -- a spot is free, open under a serial at an argument, or holds a reading too, with the lower and the upper end of its set
 pub data Spot : Type 0 where
@@ -37,17 +37,9 @@ pub record Book : Type 0 where
   pub spoiled : ℕ
   pub aborted : ℕ
 
--- how many spots there are
-abbrev pub spot-count : ℕ
-spot-count = 64
-
--- no serial after this one is given
-abbrev pub last-serial : ℕ
-last-serial = 200000000
-
 -- a cleared book: serials go on, all else starts again
 abbrev pub cleared : ℕ → Book
-cleared last = record { spots = replicate spot-count Free; last = last; opened = 0; filed = 0; spoiled = 0; aborted = 0 }
+cleared last = record { spots = replicate place-count Free; last = last; opened = 0; filed = 0; spoiled = 0; aborted = 0 }
 
 -- a new book
 abbrev pub blank : Book
@@ -86,7 +78,7 @@ first test b = leading (λ s. not (test s)) (b .spots)
 
 -- whether there is one
 abbrev pub found : (Spot → Bool) → Book → Bool
-found test b = ltb (first test b) spot-count
+found test b = ltb (first test b) place-count
 
 -- ---- changing it
 
@@ -156,10 +148,6 @@ tallies b = record { opened = b .opened; filed = b .filed; spoiled = b .spoiled;
 
 -- ---- each call
 
--- whether a number is an argument
-abbrev pub within : ℤ → Bool
-within x = leZ least-argument x && leZ x greatest-argument
-
 -- the book after a call; a point of another number, and a question, change nothing
 abbrev pub next : Meaning → ℕ → Book → Call → Book
 next m n b (call.Open x) = cond (within x) (opens-next b x) b
@@ -198,13 +186,6 @@ told m n b (call.Value x) = None
 told m n b call.Tallies = Some (answer.Counted (tallies b))
 
 -- ---- what is held
-
--- a held measurement, as the questions about lines have it
-pub record Row : Type 0 where
-  pub serial : ℕ
-  pub argument : ℤ
-  pub lower : ℤ
-  pub upper : ℤ
 
 unfoldable pub held-rows : List Spot → List Row
 held-rows [] = []

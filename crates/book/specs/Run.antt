@@ -1,22 +1,11 @@
 -- A list of calls, one after the other, as the bench book takes it.
-use mathlib.Core.Path.{_≡_}
 use mathlib.Core.List.{List, [], _∷_}
 use Prim.Native.Nat.{ℕ}
-use Rattle.std.specs.declared.option.Option.{Option}
-use Rattle.std.specs.declared.option.Option.the-variants.{Some, None}
 use Rattle.stage.specs.Meaning.{Meaning}
 use Rattle.book.specs.declared.call.Call.{Call}
 use Rattle.book.specs.declared.answer.Answer.{Answer}
-use Rattle.book.specs.Book.{Book, Row, next, told, rows}
-
--- which answers a question about lines may have, from the measurements that are held
-abbrev pub Questions : Type 1
-Questions = List Row → Call → Answer → Type 0
-
--- an answer is the one that is told, or, where none is, one that the question may have
-abbrev pub Answers : Option Answer → Type 0 → Answer → Type 0
-Answers (Some a) question r = r ≡ a
-Answers None question r = question
+use Rattle.book.specs.Rows.{Questions, Answers}
+use Rattle.book.specs.Book.{Book, next, told, rows}
 
 -- the book after a list of calls
 unfoldable pub after : Meaning → ℕ → Book → List Call → Book

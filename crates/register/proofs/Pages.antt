@@ -28,7 +28,8 @@ use Rattle.places.specs.declared.status.Status.{Status}
 use Rattle.places.specs.declared.status.Status.the-variants as status
 use Rattle.places.specs.Search.{has, before, index, held-with}
 use Rattle.places.specs.Search as places
-use Rattle.book.specs.Book.{Book, Spot, Free, Open, Held, is-free, is-open, is-held, open-as, held-as, first, found, spot-count, hold, files-at, last-serial, opens-next, aborts-next, withdraws-next, files-next}
+use Rattle.book.specs.Limits.{place-count, last-serial}
+use Rattle.book.specs.Book.{Book, Spot, Free, Open, Held, is-free, is-open, is-held, open-as, held-as, first, found, hold, opens-next, aborts-next, withdraws-next, files-next}
 use Rattle.register.specs.declared.register.Register.{Register}
 use Rattle.register.specs.Page.{spot, page}
 
@@ -103,7 +104,7 @@ module _ (r : Register) (w : Status) where
   nowhere e =
       let ps = r .places .all in
       let b = none-by (ltb (before w ps) (length ps)) (before w ps) e in
-      le-ltb (first (seeks w) (page r)) spot-count (omega (arith, ltb-false (before w ps) (length ps) b, leading-map w ps, r .long))
+      le-ltb (first (seeks w) (page r)) place-count (omega (arith, ltb-false (before w ps) (length ps) b, leading-map w ps, r .long))
 
   pub somewhere : (i : ℕ) → Some i ≡ index w (r .places .all) → Found r w i
   somewhere i e =
@@ -111,7 +112,7 @@ module _ (r : Register) (w : Status) where
       let b = some-by (ltb (before w ps) (length ps)) i (before w ps) e in
       let lt = ltb-true (before w ps) (length ps) (b .0) in
       record {
-        there = lt-ltb (first (seeks w) (page r)) spot-count (omega (arith, lt, leading-map w ps, r .long));
+        there = lt-ltb (first (seeks w) (page r)) place-count (omega (arith, lt, leading-map w ps, r .long));
         first-is = leading-map w ps ∙ b .1;
         inside = omega (arith, lt, b .1);
         is = λ d. rw (b .1) at (found-has w ps d lt);

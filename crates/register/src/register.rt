@@ -2,7 +2,7 @@ ghost use mathlib.Core.Path.{_≡_};
 ghost use Prim.Native.Nat.{_+_, _≤_};
 ghost use lib.ListN.{length};
 ghost use Rattle.std.specs.shelf.Lists.{countBy};
-ghost use Rattle.book.specs.Book.{spot-count, last-serial};
+ghost use Rattle.book.specs.Limits.{place-count, last-serial};
 ghost use Rattle.places.specs.Search.{is-open};
 use places::place::Places;
 
@@ -15,7 +15,7 @@ pub struct Register {
     pub(crate) filed: u32,
     pub(crate) spoiled: u32,
     pub(crate) aborted: u32,
-    ghost long: { length (places .all) ≡ spot-count },
+    ghost long: { length (places .all) ≡ place-count },
     ghost few: { last ≤ last-serial },
     ghost given: { opened ≤ last },
     ghost ended: { filed + spoiled + aborted + countBy is-open (places .all) ≡ opened },

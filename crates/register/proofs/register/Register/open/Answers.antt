@@ -6,7 +6,7 @@ use borrow.Author.Needs.{needs}
 use Rattle.std.proofs.shelf.Tests.{lt-ltb, le-ltb}
 use Rattle.places.specs.declared.place.Place.the-variants.{Open}
 use Rattle.places.specs.declared.status.Status.the-variants.{Free}
-use Rattle.book.specs.Book.{last-serial}
+use Rattle.book.specs.Limits.{last-serial}
 use Rattle.register.proofs.Pages.{nowhere, somewhere, opens-page, open-after}
 use Rattle.register.proofs.register.Register.open.Needs as need
 
