@@ -1,3 +1,5 @@
 pub mod Spots
 pub mod Fates
 pub mod Steps
+pub mod Kept
+pub mod Sheets

@@ -11,6 +11,7 @@ use Rattle.stage.specs.Meaning.{Meaning}
 use Rattle.book.specs.Limits.{place-count, last-serial, within}
 use Rattle.book.specs.Book.{Book, Spot, Free, Open, Held}
 use Rattle.book.specs.Book as book
+use Rattle.book.specs.Rows.{Row}
 use Rattle.book.specs.Law.{Event, Fate, never, open-at, held-at, is-open, is-held, fate, given, since, opening, filing, spoiling, aborting}
 
 -- a spot is as its serial fares
@@ -51,7 +52,16 @@ Taken m (Held s x r l u) = (within x ≡ true) × (m .taken r ≡ true) × (l �
 
 -- what is so of every book that calls lead to
 pub record Kept (m : Meaning) (b : Book) : Type 0 where
+  pub long : length (b .spots) ≡ place-count
   pub few : b .last ≤ last-serial
   pub given : b .opened ≤ b .last
   pub ended : b .filed + b .spoiled + b .aborted + countBy book.is-open (b .spots) ≡ b .opened
   pub taken : All (Taken m) (b .spots)
+
+-- what is so of a row in such a book
+pub record Measured (m : Meaning) (x : Row) : Type 0 where
+  pub at-argument : within (x .argument) ≡ true
+  pub reading : ℤ
+  pub taken : m .taken reading ≡ true
+  pub lower : x .lower ≡ m .lower reading
+  pub upper : x .upper ≡ m .upper reading
