@@ -3,3 +3,4 @@ pub mod Fates
 pub mod Steps
 pub mod Kept
 pub mod Sheets
+pub mod Laws
