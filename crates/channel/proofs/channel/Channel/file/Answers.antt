@@ -1,0 +1,15 @@
+use borrow.Author.Needs.{needs}
+use Rattle.channel.proofs.Going.{goes-on}
+use Rattle.channel.proofs.channel.Channel.file.Needs as need
+
+pub returns-then-number-self : need.returns-then-number-self
+returns-then-number-self g c =
+    record { number = search needs; stage = search needs; book = search needs; told = search needs; law = goes-on _ _ _ _ _ _ (search needs) (search needs) }
+
+pub returns-in-Break-set : need.returns-in-Break-set
+returns-in-Break-set g c =
+    record { number = search needs; stage = search needs; book = search needs; told = search needs; law = goes-on _ _ _ _ _ _ (search needs) (search needs) }
+
+pub returns : need.returns
+returns g c =
+    record { number = search needs; stage = search needs; book = search needs; told = search needs; law = goes-on _ _ _ _ _ _ (search needs) (search needs) }
