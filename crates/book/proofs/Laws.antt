@@ -2,18 +2,15 @@
 use mathlib.Core.Path.{_≡_, refl, sym, ap, subst, _∙_}
 use mathlib.Core.Bool.{Bool, true, false, cond, _&&_}
 use mathlib.Core.List.{List, [], _∷_, _++_}
-use Prim.Native.Nat.{ℕ, zero, suc, _+_, _<_, _≤_}
+use Prim.Native.Nat.{ℕ, _+_, _<_}
 use native.Mathlib.Omega.{arith}
 use lib.Dec.{eqb, ltb}
 use lib.IntN.{ℤ}
 use lib.ListN.{length, getD, set, take}
-use Rattle.std.specs.shelf.Lists.{All}
 use Rattle.std.proofs.shelf.Lists.{take-more, take-more-set}
 use Rattle.std.specs.declared.option.Option.{Option}
 use Rattle.std.specs.declared.option.Option.the-variants.{Some, None}
-use Rattle.std.specs.declared.result.Result.{Result}
 use Rattle.std.specs.declared.result.Result.the-variants.{Ok, Err}
-use Rattle.refusal.specs.declared.refusal.Refusal.{Refusal}
 use Rattle.refusal.specs.declared.refusal.Refusal.the-variants as refusal
 use Rattle.stage.specs.Meaning.{Meaning}
 use Rattle.stage.specs.Meaning as stage
@@ -23,10 +20,10 @@ use Rattle.book.specs.declared.call.Call.the-variants as call
 use Rattle.book.specs.declared.answer.Answer.{Answer}
 use Rattle.book.specs.declared.answer.Answer.the-variants as answer
 use Rattle.book.specs.Limits.{place-count, last-serial, within}
-use Rattle.book.specs.Rows.{Row, Questions, Answers, Unordered, DistinctSerials}
+use Rattle.book.specs.Rows.{Questions, Answers, Unordered, DistinctSerials}
 use Rattle.book.specs.Book.{Book, blank, next, told, tallies, opening, filing, ending, rows, is-free, open-as, held-as, found}
 use Rattle.book.specs.Run.{after, Replies}
-use Rattle.book.specs.Law.{History, Event, event, events, fate, is-open, is-held, given, open-count, held-count, held, due, Lawful, upon, Balanced}
+use Rattle.book.specs.Law.{History, Event, event, events, open-count, held-count, held, due, Lawful, upon, Balanced}
 use Rattle.book.specs.Law as law
 use Rattle.book.specs.Agreement.{Agrees, Kept}
 use Rattle.book.proofs.Fates.{found-open, found-held, found-free, open-same, held-same}
