@@ -28,7 +28,7 @@ use Rattle.book.specs.Law as law
 use Rattle.book.specs.Agreement.{Agrees, Kept}
 use Rattle.book.proofs.Fates.{found-open, found-held, found-free, open-same, held-same}
 use Rattle.book.proofs.Steps.{agrees-next, agrees-blank}
-use Rattle.book.proofs.Kept.{kept-blank, kept-after}
+use Rattle.book.proofs.Kept.{kept-blank, kept-next, kept-after}
 use Rattle.book.proofs.Sheets.{same-rows, distinct-rows}
 
 -- ---- each call is told what it is due
@@ -113,9 +113,19 @@ balanced m es b g k =
     let o = g .opened in let f = g .filed in let p = g .spoiled in let a = g .aborted in let w = open-same es b g in let over = k .ended in
     omega arith
 
-pub balanced-run : (Q : Questions) → Unordered Q → (m : Meaning) (n : ℕ) (cs : List Call) (rs : List Answer) → Replies Q m n blank cs rs → Balanced (events (upon [] cs rs))
-balanced-run Q unordered m n cs rs e =
-    balanced m _ (after m n blank cs) (lawful-run Q unordered m n cs rs e .1) (kept-after m n blank (kept-blank m) cs)
+-- every lawful history has its book
+lawful-book : (Q : Questions) (m : Meaning) (n : ℕ) (h : History) → Lawful Q m n h → (b : Book) × Agrees (events h) b × Kept m b
+unfolding events Lawful
+lawful-book Q m n [] l = (blank, agrees-blank, kept-blank m)
+lawful-book Q m n (e ∷ h) l =
+    let k = lawful-book Q m n h (l .1) in
+    let b = k .0 in
+    let q = Q (held (events h)) (e .0) (e .1) in
+    let told-it : Answers (told m n b (e .0)) q (e .1) = subst (λ o. Answers o q (e .1)) (sym (told-due m n (events h) b (k .1) (e .0))) (l .0) in
+    (next m n b (e .0), agrees-next m n (events h) b (k .1) (e .0) (e .1) q told-it, kept-next m b (k .2) n (e .0))
+
+pub balanced-law : (Q : Questions) (m : Meaning) (n : ℕ) (h : History) → Lawful Q m n h → Balanced (events h)
+balanced-law Q m n h l = let k = lawful-book Q m n h l in balanced m (events h) (k .0) (k .1) (k .2)
 
 -- ---- every book that calls lead to
 
