@@ -1,23 +1,22 @@
 -- What a book that agrees with a history has of each serial.
 use mathlib.Core.Path.{_≡_, refl, sym, ap, subst, _∙_}
-use mathlib.Core.Bool.{Bool, true, false, cond, not, _||_}
+use mathlib.Core.Bool.{Bool, true, false, cond}
 use mathlib.Core.List.{List, [], _∷_}
-use mathlib.Core.Logic.{_⊎_, inl, inr, ⊎-elim}
+use mathlib.Core.Logic.{⊎-elim}
 use Prim.Native.Nat.{ℕ, zero, suc, _+_, _<_, _≤_}
 use native.Mathlib.Omega.{arith}
 use lib.Dec.{eqb, ltb}
-use lib.IntN.{ℤ}
-use lib.ListN.{length, getD}
-use Rattle.std.specs.shelf.Lists.{All, Has, joined, sumBy, countBy}
-use Rattle.std.proofs.shelf.Elements.{all-getD, all-weaker}
+use lib.ListN.{length}
+use Rattle.std.specs.shelf.Lists.{All, sumBy, countBy}
+use Rattle.std.proofs.shelf.Elements.{all-weaker}
 use Rattle.std.proofs.shelf.Sums.{sumBy-cons}
-use Rattle.std.proofs.shelf.Tests.{cases-bool, cases-lt, cases-eq, eqb-true, eq-eqb, ne-eqb, lt-ltb, le-ltb, ltb-true}
+use Rattle.std.proofs.shelf.Tests.{cases-bool, cases-lt, cases-eq, eqb-true, eq-eqb, ne-eqb, lt-ltb, le-ltb}
 use Rattle.book.specs.Limits.{place-count}
 use Rattle.book.specs.Book.{Book, Spot, Free, Open, Held, is-free, open-as, held-as, first, found}
 use Rattle.book.specs.Book as book
 use Rattle.book.specs.Law.{Event, Fate, never, open-at, held-at, spoiled, aborted, withdrawn, swept, is-open, is-held, fate, given, up-to, serials, open-count, held-count}
 use Rattle.book.specs.Agreement.{Fares, bears, stands, Agrees}
-use Rattle.book.proofs.Spots.{one, never-both, sum-same, sum-none, sum-swap, first-passes, found-by}
+use Rattle.book.proofs.Spots.{one, sum-same, sum-none, sum-swap, found-by}
 
 neither : (b : Bool) → _≡_ {A = ℕ} 0 (cond b 0 0)
 neither true = refl

@@ -1,8 +1,8 @@
 -- What every book keeps that calls lead to.
-use mathlib.Core.Path.{_≡_, refl, sym, ap, subst, _∙_}
+use mathlib.Core.Path.{_≡_, refl, sym, subst, _∙_}
 use mathlib.Core.Bool.{Bool, true, false, cond}
 use mathlib.Core.List.{List, [], _∷_}
-use Prim.Native.Nat.{ℕ, zero, suc, _+_, _<_, _≤_}
+use Prim.Native.Nat.{ℕ, zero, suc, _+_, _<_}
 use native.Mathlib.Omega.{arith}
 use lib.Dec.{eqb, ltb}
 use lib.IntN.{ℤ}
@@ -10,7 +10,7 @@ use lib.ListN.{length, getD, set, replicate}
 use lib.Signed.{_≤ℤ_}
 use Rattle.std.specs.shelf.Lists.{All, countBy}
 use Rattle.std.proofs.shelf.Lists.{length-set}
-use Rattle.std.proofs.shelf.Elements.{all-getD, all-weaker, all-set}
+use Rattle.std.proofs.shelf.Elements.{all-getD, all-set}
 use Rattle.std.proofs.shelf.Sums.{sumBy-set}
 use Rattle.std.proofs.shelf.Tests.{ltb-true}
 use Rattle.stage.specs.Meaning.{Meaning, Sound}
@@ -19,7 +19,7 @@ use Rattle.book.specs.declared.call.Call.{Call}
 use Rattle.book.specs.declared.call.Call.the-variants as call
 use Rattle.book.specs.Limits.{place-count, last-serial, within}
 use Rattle.book.specs.Rows.{Row}
-use Rattle.book.specs.Book.{Book, Spot, Free, Open, Held, is-free, is-open, open-as, held-as, first, found, put, hold, one-opened, one-filed, one-spoiled, one-aborted, cleared, blank, next, held-rows, rows}
+use Rattle.book.specs.Book.{Book, Spot, Free, Open, Held, is-free, is-open, open-as, held-as, first, found, put, hold, one-opened, one-filed, one-spoiled, one-aborted, blank, next, held-rows, rows}
 use Rattle.book.specs.Run.{after}
 use Rattle.book.specs.Agreement.{Taken, Kept, Measured}
 use Rattle.book.proofs.Spots.{one, first-passes}

@@ -2,18 +2,15 @@
 use mathlib.Core.Path.{_≡_, refl, sym, ap, subst, _∙_}
 use mathlib.Core.Bool.{Bool, true, false, cond, _&&_}
 use mathlib.Core.List.{List, [], _∷_, _++_}
-use Prim.Native.Nat.{ℕ, zero, suc, _+_, _<_, _≤_}
+use Prim.Native.Nat.{ℕ, _+_, _<_}
 use native.Mathlib.Omega.{arith}
 use lib.Dec.{eqb, ltb}
 use lib.IntN.{ℤ}
 use lib.ListN.{length, getD, set, take}
-use Rattle.std.specs.shelf.Lists.{All}
 use Rattle.std.proofs.shelf.Lists.{take-more, take-more-set}
 use Rattle.std.specs.declared.option.Option.{Option}
 use Rattle.std.specs.declared.option.Option.the-variants.{Some, None}
-use Rattle.std.specs.declared.result.Result.{Result}
 use Rattle.std.specs.declared.result.Result.the-variants.{Ok, Err}
-use Rattle.refusal.specs.declared.refusal.Refusal.{Refusal}
 use Rattle.refusal.specs.declared.refusal.Refusal.the-variants as refusal
 use Rattle.stage.specs.Meaning.{Meaning}
 use Rattle.stage.specs.Meaning as stage
@@ -23,15 +20,15 @@ use Rattle.book.specs.declared.call.Call.the-variants as call
 use Rattle.book.specs.declared.answer.Answer.{Answer}
 use Rattle.book.specs.declared.answer.Answer.the-variants as answer
 use Rattle.book.specs.Limits.{place-count, last-serial, within}
-use Rattle.book.specs.Rows.{Row, Questions, Answers, Unordered, DistinctSerials}
+use Rattle.book.specs.Rows.{Questions, Answers, Unordered, DistinctSerials}
 use Rattle.book.specs.Book.{Book, blank, next, told, tallies, opening, filing, ending, rows, is-free, open-as, held-as, found}
 use Rattle.book.specs.Run.{after, Replies}
-use Rattle.book.specs.Law.{History, Event, event, events, fate, is-open, is-held, given, open-count, held-count, held, due, Lawful, upon, Balanced}
+use Rattle.book.specs.Law.{History, Event, event, events, open-count, held-count, held, due, Lawful, upon, Balanced}
 use Rattle.book.specs.Law as law
 use Rattle.book.specs.Agreement.{Agrees, Kept}
 use Rattle.book.proofs.Fates.{found-open, found-held, found-free, open-same, held-same}
 use Rattle.book.proofs.Steps.{agrees-next, agrees-blank}
-use Rattle.book.proofs.Kept.{kept-blank, kept-after}
+use Rattle.book.proofs.Kept.{kept-blank, kept-next, kept-after}
 use Rattle.book.proofs.Sheets.{same-rows, distinct-rows}
 
 -- ---- each call is told what it is due
@@ -116,9 +113,19 @@ balanced m es b g k =
     let o = g .opened in let f = g .filed in let p = g .spoiled in let a = g .aborted in let w = open-same es b g in let over = k .ended in
     omega arith
 
-pub balanced-run : (Q : Questions) → Unordered Q → (m : Meaning) (n : ℕ) (cs : List Call) (rs : List Answer) → Replies Q m n blank cs rs → Balanced (events (upon [] cs rs))
-balanced-run Q unordered m n cs rs e =
-    balanced m _ (after m n blank cs) (lawful-run Q unordered m n cs rs e .1) (kept-after m n blank (kept-blank m) cs)
+-- every lawful history has its book
+lawful-book : (Q : Questions) (m : Meaning) (n : ℕ) (h : History) → Lawful Q m n h → (b : Book) × Agrees (events h) b × Kept m b
+unfolding events Lawful
+lawful-book Q m n [] l = (blank, agrees-blank, kept-blank m)
+lawful-book Q m n (e ∷ h) l =
+    let k = lawful-book Q m n h (l .1) in
+    let b = k .0 in
+    let q = Q (held (events h)) (e .0) (e .1) in
+    let told-it : Answers (told m n b (e .0)) q (e .1) = subst (λ o. Answers o q (e .1)) (sym (told-due m n (events h) b (k .1) (e .0))) (l .0) in
+    (next m n b (e .0), agrees-next m n (events h) b (k .1) (e .0) (e .1) q told-it, kept-next m b (k .2) n (e .0))
+
+pub balanced-law : (Q : Questions) (m : Meaning) (n : ℕ) (h : History) → Lawful Q m n h → Balanced (events h)
+balanced-law Q m n h l = let k = lawful-book Q m n h l in balanced m (events h) (k .0) (k .1) (k .2)
 
 -- ---- every book that calls lead to
 

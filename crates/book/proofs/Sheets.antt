@@ -1,20 +1,19 @@
 -- What a book holds is what its history has held.
-use mathlib.Core.Path.{_≡_, refl, sym, ap, subst, _∙_}
-use mathlib.Core.Bool.{Bool, true, false, cond, _||_}
-use mathlib.Core.List.{List, [], _∷_, _++_}
-use mathlib.Core.Logic.{_⊎_, ⊎-elim, _↔_}
-use Prim.Native.Nat.{ℕ, zero, suc, _+_, _<_, _≤_}
+use mathlib.Core.Path.{_≡_, refl, sym, ap, subst}
+use mathlib.Core.Bool.{true, false}
+use mathlib.Core.List.{List, [], _∷_}
+use mathlib.Core.Logic.{⊎-elim}
+use Prim.Native.Nat.{ℕ, zero, suc, _<_, _≤_}
 use native.Mathlib.Omega.{arith}
 use lib.Dec.{eqb}
 use lib.IntN.{ℤ}
-use lib.ListN.{length, getD}
 use Rattle.std.specs.shelf.Lists.{All, Has, joined, countBy}
 use Rattle.std.proofs.shelf.Elements.{all-has, all-append, has-getD, has-append-left, has-append-right}
 use Rattle.std.proofs.shelf.Sums.{sumBy-cons}
 use Rattle.std.proofs.shelf.Tests.{cases-bool, cases-eq, cases-lt, eqb-true}
 use Rattle.book.specs.Rows.{Row, SameRows, DistinctSerials}
 use Rattle.book.specs.Book.{Book, Spot, Free, Open, Held, held-rows, rows}
-use Rattle.book.specs.Law.{Event, Fate, never, open-at, held-at, spoiled, aborted, withdrawn, swept, is-held, fate, given, up-to, serials, row, held}
+use Rattle.book.specs.Law.{Event, Fate, never, open-at, held-at, spoiled, aborted, withdrawn, swept, fate, given, up-to, serials, row, held}
 use Rattle.book.specs.Agreement.{Fares, bears, stands, Agrees}
 use Rattle.book.proofs.Spots.{one}
 use Rattle.book.proofs.Fates.{was-given}

@@ -1,22 +1,19 @@
 -- Each step of the book agrees with the history that has the call.
 use mathlib.Core.Path.{_≡_, refl, sym, ap, subst, _∙_}
-use mathlib.Core.Bool.{Bool, true, false, cond, not, _&&_, _||_}
+use mathlib.Core.Bool.{Bool, true, false, cond}
 use mathlib.Core.List.{List, [], _∷_}
-use mathlib.Core.Logic.{_⊎_, inl, inr, ⊎-elim}
+use mathlib.Core.Logic.{⊎-elim}
 use Prim.Native.Nat.{ℕ, zero, suc, _+_, _<_, _≤_}
 use native.Mathlib.Omega.{arith}
 use lib.Dec.{eqb, ltb}
 use lib.IntN.{ℤ}
 use lib.ListN.{length, getD, set, replicate}
-use Rattle.std.specs.shelf.Lists.{All, sumBy, countBy}
+use Rattle.std.specs.shelf.Lists.{All, countBy}
 use Rattle.std.proofs.shelf.Lists.{length-set, set-set}
 use Rattle.std.proofs.shelf.Elements.{all-getD, all-weaker, all-set}
 use Rattle.std.proofs.shelf.Sums.{sumBy-cons, sumBy-set}
 use Rattle.std.proofs.shelf.Tests.{cases-bool, eqb-true, eqb-false, eq-eqb, ne-eqb, ltb-true}
-use Rattle.std.specs.declared.option.Option.the-variants.{Some, None}
-use Rattle.std.specs.declared.result.Result.{Result}
 use Rattle.std.specs.declared.result.Result.the-variants.{Ok, Err}
-use Rattle.refusal.specs.declared.refusal.Refusal.{Refusal}
 use Rattle.refusal.specs.declared.refusal.Refusal.the-variants as refusal
 use Rattle.stage.specs.Meaning.{Meaning}
 use Rattle.stage.specs.Meaning as stage
@@ -27,10 +24,10 @@ use Rattle.book.specs.declared.answer.Answer.the-variants as answer
 use Rattle.book.specs.Limits.{place-count, last-serial, within}
 use Rattle.book.specs.Rows.{Answers}
 use Rattle.book.specs.Book.{Book, Spot, Free, Open, Held, is-free, open-as, held-as, first, found, put, hold, one-opened, one-filed, one-spoiled, one-aborted, blank, next, told, opening, filing, ending, cleared}
-use Rattle.book.specs.Law.{Event, opens, files, spoils, aborts, withdraws, clears, nothing, event, Fate, never, open-at, held-at, is-open, is-held, fate, given, since}
+use Rattle.book.specs.Law.{Event, opens, files, spoils, aborts, withdraws, clears, nothing, event, Fate, never, open-at, held-at, fate, given, since}
 use Rattle.book.specs.Law as law
 use Rattle.book.specs.Agreement.{Fares, bears, stands, Agrees}
-use Rattle.book.proofs.Spots.{one, never-both, first-passes, all-fail, all-both}
+use Rattle.book.proofs.Spots.{one, first-passes, all-fail, all-both}
 use Rattle.book.proofs.Fates.{was-given}
 
 eqb-swap : (s t : ℕ) → eqb s t ≡ false → eqb t s ≡ false

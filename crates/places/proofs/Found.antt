@@ -1,14 +1,12 @@
 -- The first place of a status.
-use mathlib.Core.Path.{_≡_, refl, sym, ap, _∙_}
-use mathlib.Core.Bool.{Bool, true, false, cond, not}
+use mathlib.Core.Path.{_≡_, sym, ap}
+use mathlib.Core.Bool.{true, false, not}
 use mathlib.Core.List.{List}
 use Prim.Native.Nat.{ℕ, _+_, _<_, _≤_}
 use native.Mathlib.Omega.{arith}
-use lib.Dec.{ltb}
 use lib.ListN.{length, getD, drop}
-use Rattle.std.specs.declared.option.Option.{Option}
 use Rattle.std.specs.declared.option.Option.the-variants.{Some, None}
-use Rattle.std.proofs.shelf.Sums.{leading-drop-all, leading-drop-yes, leading-drop-no}
+use Rattle.std.proofs.shelf.Sums.{leading-drop-yes, leading-drop-no}
 use Rattle.std.proofs.shelf.Tests.{lt-ltb, le-ltb}
 use Rattle.places.specs.declared.place.Place.{Place}
 use Rattle.places.specs.declared.status.Status.{Status}

@@ -1,9 +1,9 @@
 -- What is found among the places is found on the page, and what changes there changes here.
-use mathlib.Core.Path.{_≡_, refl, sym, ap, _∙_}
+use mathlib.Core.Path.{_≡_, refl, ap, _∙_}
 use mathlib.Core.Bool.{Bool, true, false, cond, not}
 use mathlib.Core.List.{List, [], _∷_, map}
-use mathlib.Core.Logic.{_⊎_, ⊎-elim}
-use Prim.Native.Nat.{ℕ, _+_, _<_, _≤_}
+use mathlib.Core.Logic.{⊎-elim}
+use Prim.Native.Nat.{ℕ, _+_, _<_}
 use native.Mathlib.Omega.{arith}
 use native.Mathlib.Numerals.{one-add}
 use lib.Dec.{ltb}
@@ -17,7 +17,6 @@ use Rattle.std.specs.declared.result.Result.the-variants.{Ok, Err}
 use Rattle.std.proofs.shelf.Lists.{map-set, getD-map}
 use Rattle.std.proofs.shelf.Sums.{sumBy-cons, sumBy-set}
 use Rattle.std.proofs.shelf.Tests.{cases-bool, ltb-true, ltb-false, lt-ltb, le-ltb}
-use Rattle.exact.specs.declared.argument.Argument.{Argument}
 use Rattle.exact.specs.declared.set.UncertaintySet.{UncertaintySet}
 use Rattle.refusal.specs.declared.refusal.Refusal.{Refusal}
 use Rattle.stage.specs.Meaning.{Meaning, answer, ends}
@@ -29,7 +28,7 @@ use Rattle.places.specs.declared.status.Status.the-variants as status
 use Rattle.places.specs.Search.{has, before, index, held-with}
 use Rattle.places.specs.Search as places
 use Rattle.book.specs.Limits.{place-count, last-serial}
-use Rattle.book.specs.Book.{Book, Spot, Free, Open, Held, is-free, is-open, is-held, open-as, held-as, first, found, hold, opens-next, aborts-next, withdraws-next, files-next}
+use Rattle.book.specs.Book.{Spot, Free, Open, Held, is-free, is-open, is-held, open-as, held-as, first, found, hold, opens-next, aborts-next, withdraws-next, files-next}
 use Rattle.register.specs.declared.register.Register.{Register}
 use Rattle.register.specs.Page.{spot, page}
 

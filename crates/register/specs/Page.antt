@@ -1,5 +1,5 @@
 -- A register as a page of the bench book.
-use mathlib.Core.List.{List, map}
+use mathlib.Core.List.{map}
 use Rattle.book.specs.Book.{Book, Spot, Free, Open, Held}
 use Rattle.places.specs.declared.place.Place.{Place}
 use Rattle.places.specs.declared.place.Place.the-variants as place
