@@ -4,6 +4,7 @@ ghost use lib.ListN.{length, drop, take, getD};
 ghost use mathlib.Core.List.{_∷_};
 ghost use Rattle.frames.specs.Tape.{said, moved, fixedLength};
 ghost use Rattle.frames.specs.Answers.{meant, answer, Decoded};
+ghost use Rattle.frames.specs.Writing.{ReadAsWritten, WrittenAsRead};
 use crate::frame::Frame;
 use crate::layout::fixed_length;
 use crate::layout::number28;
@@ -99,6 +100,8 @@ impl<'a> Reader<'a> {
         ensures answer { λ r. ⌜ meant r ≡ answer (now (self .entry) .position) (said (drop (now (self .entry) .position) (now (now (self .entry) .tape)))) ⌝ }
         ensures place { λ _. ⌜ now (self .exit) .position ≡ now (self .entry) .position + moved (said (drop (now (self .entry) .position) (now (now (self .entry) .tape)))) ⌝ }
         ensures tape { λ _. ⌜ now (now (self .exit) .tape) ≡ now (now (self .entry) .tape) ⌝ }
+        ensures written { λ _. ⌜ ReadAsWritten ⌝ }
+        ensures only { λ _. ⌜ WrittenAsRead ⌝ }
     {
         let tape = self.tape;
         let left = &tape[self.position..];
