@@ -1,17 +1,20 @@
 -- The digits of a number, and how many there are.
-use mathlib.Core.Path.{_≡_, refl, sym, ap, _∙_}
-use mathlib.Core.Bool.{cond}
+use mathlib.Core.Path.{_≡_, refl, sym, ap, subst, _∙_}
+use mathlib.Core.Bool.{true, cond}
 use mathlib.Core.List.{List, [], _∷_, _++_}
 use Prim.Native.Nat.{ℕ, suc, _+_, _/_, _%_, _^_, _<_, _≤_}
 use native.Mathlib.Omega.{arith}
 use borrow.Author.Tests.{lt-ltb, le-ltb}
 use lib.IntN.{ℤ, pos, negsuc, natAbs}
-use lib.ListN.{length, length-append}
-use lib.Signed.{_<ℤ_, mag}
+use lib.ListN.{length, getD, length-append}
+use lib.Signed.{_<ℤ_}
 use Rattle.std.proofs.shelf.Signed.{ints}
 use Rattle.std.specs.Written as std
-use Rattle.std.proofs.shelf.Decimals.{Spells, decimal-from-spells, decimal-digit, decimal-step, length-decimal-le}
-use Rattle.printout.specs.Decimal.{digits, decimal, signed}
+use Rattle.std.proofs.shelf.Decimals.{Spells, decimal-from-spells, decimal-step, length-decimal-le, digits-decimal, value-decimal, first-decimal}
+use Rattle.std.proofs.shelf.Numerals.{Numerals, numerals-by-fold}
+use Rattle.std.specs.shelf.Text.{allDigits}
+use borrow.Author.Needs.{needs}
+use Rattle.printout.specs.Decimal.{digits, decimal, signed, readOn, ReadsBack}
 
 one : (k n : ℕ) → n < 10 → digits (suc k) n ≡ (48 + n) ∷ []
 unfolding digits
@@ -42,3 +45,13 @@ at-most k n some h f = omega (arith, length-decimal-le k n some h f, ap length (
 pub negative : (z : ℤ) → z <ℤ pos 0 → 45 ∷ decimal (natAbs z) ≡ signed z
 negative (pos n) h = absurd (omega (arith, ints))
 negative (negsuc n) h = refl
+
+own : Numerals (λ ds. allDigits ds ≡ true) (readOn 0)
+own = numerals-by-fold _ (search needs) readOn (search needs)
+
+pub reads-back : ReadsBack
+reads-back n h =
+    let e = sym (as-written n h) in
+    (subst (λ ds. allDigits ds ≡ true) e (digits-decimal own n h),
+     ap (readOn 0) (as-written n h) ∙ value-decimal own n h,
+     (λ some. subst (λ (ds : List ℕ). 48 < getD ds 0 0) e (first-decimal n some h)))

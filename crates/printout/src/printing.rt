@@ -6,6 +6,7 @@ ghost use lib.ListN.{length, drop};
 ghost use Rattle.std.specs.declared.result.Result.the-variants.{Ok, Err};
 ghost use Rattle.std.specs.Vec.{made};
 ghost use Rattle.refusal.specs.declared.refusal.Refusal.the-variants.{LineNotWritten};
+ghost use Rattle.printout.specs.Decimal.{ReadsBack};
 ghost use Rattle.printout.specs.Words.{over};
 ghost use Rattle.printout.specs.Text.{text, body, reasonOf, refused};
 use crate::line::Line;
@@ -49,6 +50,7 @@ pub fn print(line: &Line, buffer: &mut [u8]) -> Result<usize, Refusal>
     ensures answer { λ r. ⌜ r ≡ cond (refused (now (line .entry)) (now (buffer .entry))) (Err LineNotWritten) (Ok (length (text (now (line .entry))))) ⌝ }
     ensures bytes { λ _. ⌜ now (buffer .exit) ≡ cond (refused (now (line .entry)) (now (buffer .entry))) (now (buffer .entry)) (text (now (line .entry)) ++ drop (length (text (now (line .entry)))) (now (buffer .entry))) ⌝ }
     ensures room { λ r. ⌜ made r (λ n. n ≤ 80) ⌝ }
+    ensures numbers { λ _. ⌜ ReadsBack ⌝ }
 {
     if buffer.len() < 80 {
         return Err(Refusal::LineNotWritten);

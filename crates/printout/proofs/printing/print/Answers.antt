@@ -1,7 +1,7 @@
 use mathlib.Core.Path.{_≡_, sym, ap, _∙_}
 use mathlib.Core.Bool.{true, false, cond}
 use mathlib.Core.List.{[], _∷_, _++_}
-use Prim.Native.Nat.{_≤_}
+use Prim.Native.Nat.{_≤_, _<_}
 use native.Mathlib.Omega.{arith}
 use native.Mathlib.Nat.{zero-add}
 use borrow.Author.Needs.{needs}
@@ -10,6 +10,7 @@ use Rattle.std.proofs.shelf.Ways.{tells}
 use Rattle.std.specs.declared.result.Result.the-variants.{Ok, Err}
 use Rattle.refusal.specs.declared.refusal.Refusal.the-variants.{LineNotWritten}
 use Rattle.printout.specs.Text.{text, body, reasonOf, refused}
+use Rattle.printout.proofs.Decimals.{reads-back}
 use Rattle.printout.proofs.Over.{next}
 use Rattle.printout.proofs.printing.print.Needs as need
 
@@ -21,7 +22,21 @@ returns-then-buffer-lt80 c =
     record {
       answer = ap (λ b. cond b (Err LineNotWritten) (Ok (length (text line)))) e;
       bytes = ap (λ b. cond b xs (text line ++ drop (length (text line)) xs)) e;
-      room = tt
+      room = tt;
+      numbers = reads-back
+    }
+
+pub returns-then-reason-gt15 : need.returns-then-reason-gt15
+returns-then-reason-gt15 c =
+    let line = c .args .line .now in
+    let xs = c .args .buffer .now in
+    let many : 15 < length (reasonOf line) = search needs in
+    let e : true ≡ refused line xs = grind (arith, tells) in
+    record {
+      answer = ap (λ b. cond b (Err LineNotWritten) (Ok (length (text line)))) e;
+      bytes = ap (λ b. cond b xs (text line ++ drop (length (text line)) xs)) e;
+      room = tt;
+      numbers = reads-back
     }
 
 pub put-byte-requires : need.put-byte-requires
@@ -40,5 +55,6 @@ returns c =
     record {
       answer = ap Ok (both .0 ∙ zero) ∙ ap (λ b. cond b (Err LineNotWritten) (Ok (length (text line)))) e;
       bytes = both .1 ∙ ap (λ n. text line ++ drop n xs) zero ∙ ap (λ b. cond b xs (text line ++ drop (length (text line)) xs)) e;
-      room = omega (arith, front .room, end .place)
+      room = omega (arith, front .room, end .place);
+      numbers = reads-back
     }
