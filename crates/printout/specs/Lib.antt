@@ -1,0 +1,4 @@
+pub mod Decimal
+pub mod Words
+pub mod Text
+pub mod Thousandths
