@@ -122,9 +122,9 @@ impl Register {
     }
 
     // The places, for the questions about lines.
-    pub fn places(&self) -> &[Place]
-        ensures { λ r. ⌜ now r ≡ now (self .entry) .places .all ⌝ }
+    pub fn places(&self) -> &Places
+        ensures { λ r. ⌜ now r ≡ now (self .entry) .places ⌝ }
     {
-        &self.places.all
+        &self.places
     }
 }
