@@ -4,6 +4,7 @@ pub mod arguments;
 pub mod division;
 pub mod divisor;
 pub mod fraction;
+pub mod opposites;
 pub mod order;
 pub mod orders;
 pub mod quantity;

@@ -1,2 +1,4 @@
 // The 64 places of a register.
 pub mod place;
+pub mod sample;
+pub mod samples;
