@@ -7,6 +7,7 @@ pub mod fraction;
 pub mod opposites;
 pub mod order;
 pub mod orders;
+pub mod product;
 pub mod quantity;
 pub mod set;
 pub mod sets;

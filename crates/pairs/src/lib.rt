@@ -1,0 +1,6 @@
+// What two measurements at different arguments allow of a line's slope or value, and the narrowest that any two allow.
+pub mod candidate;
+pub mod low;
+pub mod order;
+pub mod quantity;
+pub mod rising;
