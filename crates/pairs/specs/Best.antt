@@ -1,4 +1,6 @@
 -- Of all pairs, one whose least is the greatest.
+use mathlib.Core.Path.{_≡_}
+use mathlib.Core.Logic.{_⊎_}
 use mathlib.Core.List.{List}
 use Rattle.std.specs.shelf.Lists.{Has}
 use Rattle.std.specs.declared.option.Option.{Option}
@@ -7,6 +9,7 @@ use Rattle.rational.specs.Rational.{Rational, _≼_}
 use Rattle.exact.specs.Quantity.{quantity}
 use Rattle.lines.specs.Sheet.{Measurement}
 use Rattle.lines.specs.Slopes.{Rises}
+use Rattle.places.specs.declared.sample.Sample.{Sample}
 use Rattle.places.specs.Samples.{measured}
 use Rattle.pairs.specs.declared.quantity.Quantity.{Quantity}
 use Rattle.pairs.specs.declared.candidate.Candidate.{Candidate}
@@ -30,3 +33,14 @@ Covers q r a b = (h : Rises a b) → Below (lowOf q a b h) r
 pub record GreatestLow (q : Quantity) (s : List Measurement) (r : Option Candidate) : Type 0 where
   pub among : Among q s r
   pub covers : (a b : Measurement) → Has s a → Has s b → Covers q r a b
+
+-- a candidate made of these two samples
+abbrev pub MadeOf : Quantity → Sample → Sample → Option Candidate → Type 0
+MadeOf q a b None = ⊥
+MadeOf q a b (Some c) = (c .pair .first ≡ a) × (c .pair .second ≡ b) × Writes (c .bound) (lowOfPair q (c .pair))
+
+-- the best so far with one more pair looked at
+pub record Looked (q : Quantity) (best : Option Candidate) (a b : Sample) (r : Option Candidate) : Type 0 where
+  pub covers : Covers q r (measured a) (measured b)
+  pub keeps : (x : Rational) → Below x best → Below x r
+  pub origin : (r ≡ best) ⊎ MadeOf q a b r

@@ -1,4 +1,5 @@
 // What two measurements at different arguments allow of a line's slope or value, and the narrowest that any two allow.
+pub mod best;
 pub mod candidate;
 pub mod low;
 pub mod order;
