@@ -1,2 +1,3 @@
 pub mod Low
 pub mod Best
+pub mod Narrowest
