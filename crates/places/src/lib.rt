@@ -2,3 +2,4 @@
 pub mod place;
 pub mod sample;
 pub mod samples;
+pub mod serials;

@@ -1,6 +1,8 @@
 ghost use mathlib.Core.Path.{_≡_};
-ghost use mathlib.Core.List.{map};
-ghost use lib.ListN.{length};
+ghost use mathlib.Core.List.{map, []};
+ghost use Rattle.std.specs.Orderings.{When};
+ghost use Rattle.std.specs.shelf.Lists.{Has};
+ghost use Rattle.lines.specs.Sheet.{Measurement};
 ghost use Rattle.lines.specs.Mirror.{mirrored as turned};
 ghost use Rattle.places.specs.Held.{held};
 ghost use Rattle.places.specs.Samples.{measured, sampled, adds};
@@ -40,6 +42,18 @@ impl Place {
 }
 
 impl Places {
+    // Whether no place holds a measurement.
+    pub fn hold_nothing(&self) -> bool
+        ensures { λ r. ⌜ When r (held (now (self .entry) .all) ≡ []) ((m : Measurement) × Has (held (now (self .entry) .all)) m) ⌝ }
+    {
+        for place in &self.all {
+            if let Some(_) = place.sample() {
+                return false;
+            }
+        }
+        true
+    }
+
     // The places with all that they hold turned upside down.
     pub fn mirrored(&self) -> Places
         ensures { λ r. ⌜ held (r .all) ≡ map turned (held (now (self .entry) .all)) ⌝ }
