@@ -1,2 +1,4 @@
 pub mod Serials
 pub mod Meeting
+pub mod Chords
+pub mod Breaks

@@ -1,3 +1,5 @@
+ghost use mathlib.Core.Path.{_≡_};
+ghost use lib.IntN.{_-ℤ_, _*ℤ_};
 ghost use Rattle.std.specs.Orderings.{When};
 ghost use Rattle.rational.specs.Rational.{_≺_};
 ghost use Rattle.lines.specs.Slopes.{LowChord};
@@ -7,6 +9,7 @@ ghost use Rattle.pairs.specs.Narrowest.{highOfPair};
 ghost use Rattle.pairs.specs.declared.quantity.Quantity.the-variants.{Slope};
 ghost use Rattle.questions.specs.Naming.{Broken, ChordAbove, four};
 use crate::naming::three;
+use exact::argument::Argument;
 use exact::product::product;
 use pairs::rising::Rising;
 use places::sample::Sample;
@@ -34,7 +37,14 @@ pub fn broken(steep: Rising, gentle: Rising) -> Conflict
 fn chord_above(a: Sample, b: Sample, c: Sample) -> bool
     ensures { λ r. ⌜ When r (ChordAbove (measured a) (measured b) (measured c)) (LowChord (measured a) (measured b) (measured c)) ⌝ }
 {
-    let from_first = product(a.set.lower, c.argument.value - b.argument.value);
-    let from_last = product(c.set.lower, b.argument.value - a.argument.value);
-    from_first + from_last > product(b.set.upper, c.argument.value - a.argument.value)
+    let from_first = times_distance(a.set.lower, b.argument, c.argument);
+    let from_last = times_distance(c.set.lower, a.argument, b.argument);
+    from_first + from_last > times_distance(b.set.upper, a.argument, c.argument)
+}
+
+// An end times the distance from one argument to another.
+fn times_distance(end: i32, from: Argument, to: Argument) -> i64
+    ensures { λ r. ⌜ r ≡ end *ℤ (to .value -ℤ from .value) ⌝ }
+{
+    product(end, to.value - from.value)
 }
