@@ -1,11 +1,11 @@
 -- How large a product is, and that it fits.
 use mathlib.Core.Path.{_≡_}
 use mathlib.Core.List.{[], _∷_}
-use Prim.Native.Nat.{ℕ, _≤_}
+use Prim.Native.Nat.{ℕ, _≤_, _^_}
 use native.Mathlib.Omega.{arith}
 use lib.IntN.{ℤ, pos, _*ℤ_, negℤ}
 use lib.Signed.{_≤ℤ_}
-use mir.Syntax.{w64}
+use mir.Syntax.{w32, w64}
 use mir.Val.{SFits, toZ, ofZ}
 use borrow.Author.Differences.{fits-in}
 use Rattle.std.proofs.shelf.Signed.{ints}
@@ -36,3 +36,17 @@ cross-cast n d f few =
     let a : toZ w64 (ofZ w64 n) ≡ n = omega (arith, ints) in
     let b : toZ w64 d ≡ pos d = omega (arith, ints) in
     λ i. a i *ℤ b i
+
+-- two numbers of 32 bits
+pub half-fits : (a b : ℤ) → SFits w32 a → SFits w32 b → SFits w64 (a *ℤ b)
+half-fits a b f g =
+    let most = pos (2 ^ 31) in
+    let h = within a b most most (omega (arith, ints)) (omega (arith, ints)) (omega (arith, ints)) (omega (arith, ints)) in
+    fits-in w64 (a *ℤ b) (omega (arith, linear))
+
+pub half-cast : (a b : ℤ) → SFits w32 a → SFits w32 b
+  → toZ w64 (ofZ w64 (toZ w32 (ofZ w32 a))) *ℤ toZ w64 (ofZ w64 (toZ w32 (ofZ w32 b))) ≡ a *ℤ b
+half-cast a b f g =
+    let p : toZ w64 (ofZ w64 (toZ w32 (ofZ w32 a))) ≡ a = omega (arith, ints) in
+    let q : toZ w64 (ofZ w64 (toZ w32 (ofZ w32 b))) ≡ b = omega (arith, ints) in
+    λ i. p i *ℤ q i

@@ -16,4 +16,11 @@ impl Fraction {
         }
         Some(Fraction { numerator, denominator })
     }
+
+    // A whole number as a fraction.
+    pub fn whole(number: i32) -> Fraction
+        ensures { λ r. ⌜ (r .numerator ≡ number) × (r .denominator ≡ 1) ⌝ }
+    {
+        Fraction { numerator: number as i64, denominator: 1 }
+    }
 }

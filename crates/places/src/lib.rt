@@ -2,3 +2,6 @@
 pub mod place;
 pub mod search;
 pub mod status;
+pub mod sample;
+pub mod samples;
+pub mod serials;
