@@ -5,13 +5,43 @@ ghost use Rattle.book.specs.Book.{next, told};
 ghost use Rattle.book.specs.Rows.{Answers};
 ghost use Rattle.places.specs.Held.{held};
 ghost use Rattle.register.specs.Page.{page};
-ghost use Rattle.channel.specs.Lines.{Says};
+ghost use Rattle.channel.specs.Lines.{Says, VerdictSays, SlopeSays, ValueSays};
 ghost use Rattle.channel.specs.Runs.{Whole};
 use crate::channel::Channel;
 use crate::point::Point;
 use book::answer::Answer;
 use book::call::Call;
+use questions::verdict::Verdict;
 use stage::stage::Stage;
+
+// The answers of the questions about lines, as a run notes them.
+fn verdict_answer<S: Stage>(channel: &Channel<S>) -> Answer
+    ensures { λ r. ⌜ VerdictSays (held (now (channel .entry) .register .places .all)) r ⌝ }
+{
+    match channel.verdict() {
+        Ok(Verdict::Line) => Answer::Line,
+        Ok(Verdict::Conflict { conflict }) => Answer::Conflicting { conflict },
+        Err(refusal) => Answer::Refused { refusal },
+    }
+}
+
+fn slope_answer<S: Stage>(channel: &Channel<S>) -> Answer
+    ensures { λ r. ⌜ SlopeSays (held (now (channel .entry) .register .places .all)) r ⌝ }
+{
+    match channel.slope() {
+        Ok((least, greatest)) => Answer::Slope { least, greatest },
+        Err(refusal) => Answer::Refused { refusal },
+    }
+}
+
+fn value_answer<S: Stage>(channel: &Channel<S>, argument: i32) -> Answer
+    ensures { λ r. ⌜ ValueSays (held (now (channel .entry) .register .places .all)) argument r ⌝ }
+{
+    match channel.value(argument) {
+        Ok((least, greatest)) => Answer::Value { least, greatest },
+        Err(refusal) => Answer::Refused { refusal },
+    }
+}
 
 // Makes one call, a point by the number and the serial that it bears.
 fn perform<S: Stage>(channel: &mut Channel<S>, call: Call) -> Answer
