@@ -55,8 +55,16 @@ fn perform<S: Stage>(channel: &mut Channel<S>, call: Call) -> Answer
             Ok(Point { number, serial }) => Answer::Opened { number, serial },
             Err(refusal) => Answer::Refused { refusal },
         },
-        Call::File { number, serial, reading } => match channel.file(Point { number, serial }, reading) {
-            Ok(filed) => Answer::Filed { serial: filed.serial, lower: filed.set.lower, upper: filed.set.upper },
+        Call::File {
+            number,
+            serial,
+            reading,
+        } => match channel.file(Point { number, serial }, reading) {
+            Ok(filed) => Answer::Filed {
+                serial: filed.serial,
+                lower: filed.set.lower,
+                upper: filed.set.upper,
+            },
             Err(refusal) => Answer::Refused { refusal },
         },
         Call::Abort { number, serial } => match channel.abort(Point { number, serial }) {
@@ -74,7 +82,9 @@ fn perform<S: Stage>(channel: &mut Channel<S>, call: Call) -> Answer
         Call::Verdict => verdict_answer(channel),
         Call::Slope => slope_answer(channel),
         Call::Value { argument } => value_answer(channel, argument),
-        Call::Tallies => Answer::Counted { tallies: channel.tallies() },
+        Call::Tallies => Answer::Counted {
+            tallies: channel.tallies(),
+        },
     }
 }
 

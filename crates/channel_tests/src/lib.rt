@@ -8,12 +8,15 @@ mod tests {
     use channel::channel::Channel;
     use channel::replay::replay;
     use exact::fraction::Fraction;
-    use refusal::refusal::Refusal;
     use refusal::conflict::Conflict;
+    use refusal::refusal::Refusal;
     use std::test::*;
 
     fn stage() -> Bounded {
-        Bounded { absolute: 5, relative: 0 }
+        Bounded {
+            absolute: 5,
+            relative: 0,
+        }
     }
 
     fn open(argument: i32) -> Call {
@@ -21,12 +24,17 @@ mod tests {
     }
 
     fn file(serial: u32, reading: i32) -> Call {
-        Call::File { number: 7, serial, reading }
+        Call::File {
+            number: 7,
+            serial,
+            reading,
+        }
     }
 
     // Whether a fraction is a number over another.
     fn is(f: Fraction, numerator: i128, denominator: i128) -> bool {
-        f.numerator as i128 * (denominator % 1_000_000) == (numerator % 1_000_000) * f.denominator as i128
+        f.numerator as i128 * (denominator % 1_000_000)
+            == (numerator % 1_000_000) * f.denominator as i128
     }
 
     #[test]
@@ -36,17 +44,41 @@ mod tests {
             open(1),
             open(2),
             open(3),
-            Call::Abort { number: 7, serial: 1 },
+            Call::Abort {
+                number: 7,
+                serial: 1,
+            },
             file(2, 100_000_000),
             file(3, 0),
             Call::Tallies,
         ];
         let mut answers = [Answer::Cleared; 8];
         let _run = replay(7, stage(), &calls, &mut answers);
-        check(matches!(answers[3], Answer::Opened { number: 7, serial: 4 }))?;
+        check(matches!(
+            answers[3],
+            Answer::Opened {
+                number: 7,
+                serial: 4
+            }
+        ))?;
         check(matches!(answers[4], Answer::Aborted { serial: 1 }))?;
-        check(matches!(answers[5], Answer::Refused { refusal: Refusal::ReadingNotTaken { place: 1, value: 100_000_000 } }))?;
-        check(matches!(answers[6], Answer::Filed { serial: 3, lower: -5, upper: 5 }))?;
+        check(matches!(
+            answers[5],
+            Answer::Refused {
+                refusal: Refusal::ReadingNotTaken {
+                    place: 1,
+                    value: 100_000_000
+                }
+            }
+        ))?;
+        check(matches!(
+            answers[6],
+            Answer::Filed {
+                serial: 3,
+                lower: -5,
+                upper: 5
+            }
+        ))?;
         let Answer::Counted { tallies } = answers[7] else {
             return Err(Fail::new("no tallies"));
         };
@@ -58,7 +90,10 @@ mod tests {
     fn strangers_are_not_taken() -> Result<(), Fail> {
         let calls = [
             open(0),
-            Call::Abort { number: 8, serial: 1 },
+            Call::Abort {
+                number: 8,
+                serial: 1,
+            },
             file(2, 0),
             Call::Clear,
             file(1, 0),
@@ -73,17 +108,63 @@ mod tests {
         ];
         let mut answers = [Answer::Cleared; 13];
         let _run = replay(7, stage(), &calls, &mut answers);
-        check(matches!(answers[1], Answer::Refused { refusal: Refusal::PointNotOpen }))?;
-        check(matches!(answers[2], Answer::Refused { refusal: Refusal::PointNotOpen }))?;
-        check(matches!(answers[4], Answer::Refused { refusal: Refusal::PointNotOpen }))?;
-        check(matches!(answers[5], Answer::Refused { refusal: Refusal::SerialNotHeld }))?;
-        check(matches!(answers[6], Answer::Refused { refusal: Refusal::ArgumentOutOfLimits }))?;
-        check(matches!(answers[7], Answer::Opened { number: 7, serial: 2 }))?;
-        check(matches!(answers[8], Answer::Refused { refusal: Refusal::SerialNotHeld }))?;
+        check(matches!(
+            answers[1],
+            Answer::Refused {
+                refusal: Refusal::PointNotOpen
+            }
+        ))?;
+        check(matches!(
+            answers[2],
+            Answer::Refused {
+                refusal: Refusal::PointNotOpen
+            }
+        ))?;
+        check(matches!(
+            answers[4],
+            Answer::Refused {
+                refusal: Refusal::PointNotOpen
+            }
+        ))?;
+        check(matches!(
+            answers[5],
+            Answer::Refused {
+                refusal: Refusal::SerialNotHeld
+            }
+        ))?;
+        check(matches!(
+            answers[6],
+            Answer::Refused {
+                refusal: Refusal::ArgumentOutOfLimits
+            }
+        ))?;
+        check(matches!(
+            answers[7],
+            Answer::Opened {
+                number: 7,
+                serial: 2
+            }
+        ))?;
+        check(matches!(
+            answers[8],
+            Answer::Refused {
+                refusal: Refusal::SerialNotHeld
+            }
+        ))?;
         check(matches!(answers[9], Answer::Filed { serial: 2, .. }))?;
-        check(matches!(answers[10], Answer::Refused { refusal: Refusal::PointNotOpen }))?;
+        check(matches!(
+            answers[10],
+            Answer::Refused {
+                refusal: Refusal::PointNotOpen
+            }
+        ))?;
         check(matches!(answers[11], Answer::Withdrawn { serial: 2 }))?;
-        check(matches!(answers[12], Answer::Refused { refusal: Refusal::NothingHeld }))
+        check(matches!(
+            answers[12],
+            Answer::Refused {
+                refusal: Refusal::NothingHeld
+            }
+        ))
     }
 
     #[test]
@@ -92,8 +173,19 @@ mod tests {
         calls[65] = Call::Tallies;
         let mut answers = [Answer::Cleared; 66];
         let _run = replay(7, stage(), &calls, &mut answers);
-        check(matches!(answers[63], Answer::Opened { number: 7, serial: 64 }))?;
-        check(matches!(answers[64], Answer::Refused { refusal: Refusal::NoFreePlace }))?;
+        check(matches!(
+            answers[63],
+            Answer::Opened {
+                number: 7,
+                serial: 64
+            }
+        ))?;
+        check(matches!(
+            answers[64],
+            Answer::Refused {
+                refusal: Refusal::NoFreePlace
+            }
+        ))?;
         check(matches!(answers[65], Answer::Counted { .. }))
     }
 

@@ -17,8 +17,8 @@ use Rattle.algebra.proofs.Normal.{var, con, _⊕_, _⊖_, _⊗_, adds-up}
 high : (a b A B : ℤ) → negℤ A ≤ℤ a → a ≤ℤ A → negℤ B ≤ℤ b → b ≤ℤ B → (a *ℤ b) ≤ℤ (A *ℤ B)
 high a b A B p q s t =
     adds-up (a ∷ b ∷ A ∷ B ∷ []) (con (pos 2)) (var 0 ⊗ var 1) (var 2 ⊗ var 3)
-      ((var 3 ⊕ var 1, var 0, var 2) ∷ (var 3 ⊖ var 1, con (pos 0) ⊖ var 2, var 0) ∷ []) tt (omega (arith, linear))
-      (omega (arith, linear), q, (omega (arith, linear), omega (arith, linear), tt))
+    ((var 3 ⊕ var 1, var 0, var 2) ∷ (var 3 ⊖ var 1, con (pos 0) ⊖ var 2, var 0) ∷ []) tt (omega (arith, linear))
+    (omega (arith, linear), q, (omega (arith, linear), omega (arith, linear), tt))
 
 -- the product of numbers within A and within B lies within A B
 pub within : (a b A B : ℤ) → negℤ A ≤ℤ a → a ≤ℤ A → negℤ B ≤ℤ b → b ≤ℤ B → (negℤ (A *ℤ B) ≤ℤ (a *ℤ b)) × ((a *ℤ b) ≤ℤ (A *ℤ B))
@@ -45,7 +45,7 @@ half-fits a b f g =
     fits-in w64 (a *ℤ b) (omega (arith, linear))
 
 pub half-cast : (a b : ℤ) → SFits w32 a → SFits w32 b
-  → toZ w64 (ofZ w64 (toZ w32 (ofZ w32 a))) *ℤ toZ w64 (ofZ w64 (toZ w32 (ofZ w32 b))) ≡ a *ℤ b
+    → toZ w64 (ofZ w64 (toZ w32 (ofZ w32 a))) *ℤ toZ w64 (ofZ w64 (toZ w32 (ofZ w32 b))) ≡ a *ℤ b
 half-cast a b f g =
     let p : toZ w64 (ofZ w64 (toZ w32 (ofZ w32 a))) ≡ a = omega (arith, ints) in
     let q : toZ w64 (ofZ w64 (toZ w32 (ofZ w32 b))) ≡ b = omega (arith, ints) in

@@ -8,7 +8,10 @@ impl Fraction {
     pub fn opposite(self) -> Fraction
         ensures { λ r. ⌜ (r .numerator ≡ negℤ (self .numerator)) × (r .denominator ≡ self .denominator) ⌝ }
     {
-        Fraction { numerator: -self.numerator, denominator: self.denominator }
+        Fraction {
+            numerator: -self.numerator,
+            denominator: self.denominator,
+        }
     }
 }
 
@@ -17,6 +20,9 @@ impl UncertaintySet {
     pub fn mirrored(self) -> UncertaintySet
         ensures { λ r. ⌜ (r .lower ≡ negℤ (self .upper)) × (r .upper ≡ negℤ (self .lower)) ⌝ }
     {
-        UncertaintySet { lower: -self.upper, upper: -self.lower }
+        UncertaintySet {
+            lower: -self.upper,
+            upper: -self.lower,
+        }
     }
 }

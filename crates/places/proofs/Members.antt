@@ -51,6 +51,6 @@ module _ (ps : List Place) where
       has-here =
           let split : held ps ≡ held (take n ps) ++ held (drop n ps) = ap held (sym (take-append-drop n ps)) ∙ held-append (take n ps) (drop n ps) in
           let rest : held (drop n ps) ≡ adds (Some a) ++ held (drop (n + 1) ps) =
-                ap held (drop-more ps n d lt) ∙ held-cons (getD ps n d) (drop (n + 1) ps) ∙ ap (λ o. adds o ++ held (drop (n + 1) ps)) some in
+          ap held (drop-more ps n d lt) ∙ held-cons (getD ps n d) (drop (n + 1) ps) ∙ ap (λ o. adds o ++ held (drop (n + 1) ps)) some in
           subst (λ s. Has s (measured a)) (sym (split ∙ ap (λ s. held (take n ps) ++ s) rest))
-            (has-append-right (held (take n ps)) (measured a ∷ held (drop (n + 1) ps)) (measured a) (has-first (measured a) (held (drop (n + 1) ps))))
+          (has-append-right (held (take n ps)) (measured a ∷ held (drop (n + 1) ps)) (measured a) (has-first (measured a) (held (drop (n + 1) ps))))

@@ -21,12 +21,13 @@ use Rattle.places.proofs.Members.{held-push, held-more}
 ≤ℤ-prop a b h k = λ i. record { le = T-prop (leZ a b) (h .le) (k .le) i }
 
 pub same-measurement : (a b : Measurement) → a .serial ≡ b .serial → a .argument ≡ b .argument → a .lower ≡ b .lower → a .upper ≡ b .upper → a ≡ b
-same-measurement a b s x l u = λ i. record
-  { serial = s i
-  ; argument = x i
-  ; lower = l i
-  ; upper = u i
-  ; ordered = isProp→PathP (λ i. l i ≤ℤ u i) (λ i. ≤ℤ-prop (l i) (u i)) (a .ordered) (b .ordered) i }
+same-measurement a b s x l u = λ i. record {
+  serial = s i;
+  argument = x i;
+  lower = l i;
+  upper = u i;
+  ordered = isProp→PathP (λ i. l i ≤ℤ u i) (λ i. ≤ℤ-prop (l i) (u i)) (a .ordered) (b .ordered) i;
+}
 
 abbrev Opposite : UncertaintySet → UncertaintySet → Type 0
 Opposite t r = (r .lower ≡ negℤ (t .upper)) × (r .upper ≡ negℤ (t .lower))
@@ -37,7 +38,7 @@ turned-sample a b s x o = same-measurement (measured b) (mirrored (measured a)) 
 module _ (ps : List Place) (done : List Place) (n : ℕ) (lt : n < length ps) (p d : Place) where
   -- one place more turned
   pub turned-more : held done ≡ map mirrored (held (take n ps)) → adds (sampled p) ≡ map mirrored (adds (sampled (getD ps n d)))
-    → held (done ++ p ∷ []) ≡ map mirrored (held (take (n + 1) ps))
+      → held (done ++ p ∷ []) ≡ map mirrored (held (take (n + 1) ps))
   turned-more e f =
       held-push done p ∙ (λ i. e i ++ f i) ∙ sym (map-append mirrored (held (take n ps)) (adds (sampled (getD ps n d))))
       ∙ ap (map mirrored) (sym (held-more ps n lt d))

@@ -15,7 +15,11 @@ impl Sample {
     pub fn mirrored(self) -> Sample
         ensures { λ r. ⌜ measured r ≡ turned (measured self) ⌝ }
     {
-        Sample { serial: self.serial, argument: self.argument, set: self.set.mirrored() }
+        Sample {
+            serial: self.serial,
+            argument: self.argument,
+            set: self.set.mirrored(),
+        }
     }
 }
 
@@ -25,7 +29,16 @@ impl Place {
         ensures { λ r. ⌜ r ≡ sampled (now (self .entry)) ⌝ }
     {
         match *self {
-            Place::Held { serial, argument, set, .. } => Some(Sample { serial, argument, set }),
+            Place::Held {
+                serial,
+                argument,
+                set,
+                ..
+            } => Some(Sample {
+                serial,
+                argument,
+                set,
+            }),
             _ => None,
         }
     }
@@ -35,7 +48,17 @@ impl Place {
         ensures { λ r. ⌜ adds (sampled r) ≡ map turned (adds (sampled (now (self .entry)))) ⌝ }
     {
         match *self {
-            Place::Held { serial, argument, reading, set } => Place::Held { serial, argument, reading, set: set.mirrored() },
+            Place::Held {
+                serial,
+                argument,
+                reading,
+                set,
+            } => Place::Held {
+                serial,
+                argument,
+                reading,
+                set: set.mirrored(),
+            },
             other => other,
         }
     }

@@ -17,11 +17,12 @@ loop-i-again c =
     let q = c .mirrored .result in
     let long : length ps ≡ 64 = search needs in
     let lt : i < length ps = omega (arith, c .loop-i-test .taken) in
-    let in-qs : i < length qs = omega (arith, c .loop-i-test .taken, c .loop-i .inv .0) in
-    (length-set qs i q ∙ c .loop-i .inv .0,
-     ap held (take-more-set qs i q in-qs)
-     ∙ turned-more ps (take i qs) i lt q _ (c .loop-i .inv .1) (c .mirrored .ensures),
-     λ more. long)
+    let in-qs : i < length qs = omega (arith, c .loop-i-test .taken, c .loop-i .inv .0) in (
+      length-set qs i q ∙ c .loop-i .inv .0,
+      ap held (take-more-set qs i q in-qs)
+          ∙ turned-more ps (take i qs) i lt q _ (c .loop-i .inv .1) (c .mirrored .ensures),
+      λ more. long,
+    )
 
 pub loop-i-holds : need.loop-i-holds
 loop-i-holds c = (refl, refl, λ more. absurd (omega arith))
