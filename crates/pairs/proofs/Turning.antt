@@ -88,7 +88,7 @@ module _ (q : Quantity) (s : List Measurement) where
   low-bound c g = record { first = g .among .0; second = g .among .1; writes = g .among .2; over = λ a b atA atB h. g .covers a b atA atB h }
 
   -- what is held upside down, turned back, is held
-  back : (m : Measurement) → Has (map mirrored s) m → Has s (mirrored m)
+  pub back : (m : Measurement) → Has (map mirrored s) m → Has s (mirrored m)
   back = each-of-map (λ m. Has s (mirrored m)) mirrored s (λ m at. subst (Has s) (sym (twice m)) at)
 
   pub high-bound : (c r : Candidate) → Turned c r → GreatestLow q (map mirrored s) (Some c) → HighBound q s r

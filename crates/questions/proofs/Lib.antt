@@ -4,3 +4,5 @@ pub mod Chords
 pub mod Breaks
 pub mod Slopes
 pub mod Lowers
+pub mod Extremes
+pub mod OneArgument
