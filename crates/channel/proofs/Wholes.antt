@@ -2,7 +2,9 @@
 use mathlib.Core.Path.{_≡_, refl, sym, ap, subst, _∙_}
 use mathlib.Core.List.{List, [], _∷_}
 use Prim.Native.Nat.{ℕ, _+_, _<_}
-use lib.ListN.{length, getD, take, set}
+use native.Mathlib.Omega.{arith}
+use lib.ListN.{length, getD, take, drop, set}
+use lib.Seq.{drop-set-lt, drop-drop}
 use Rattle.std.specs.declared.option.Option.{Option}
 use Rattle.std.specs.declared.option.Option.the-variants.{Some, None}
 use Rattle.stage.specs.Meaning.{Meaning}
@@ -16,7 +18,7 @@ use Rattle.book.specs.Book.{Book, blank, next, told, rows, tallies}
 use Rattle.book.specs.Law.{events, upon, tallies as counted-tallies}
 use Rattle.book.specs.Run.{after, Replies}
 use Rattle.book.specs.Agreement.{Agrees}
-use Rattle.book.proofs.Laws.{told-due, lawful-run, balanced-run, distinct-run, after-more, replies-more}
+use Rattle.book.proofs.Laws.{told-due, lawful-run, balanced-law, distinct-run, after-more, replies-more}
 use Rattle.register.specs.declared.register.Register.{Register}
 use Rattle.register.specs.Page.{page}
 use Rattle.channel.specs.Lines.{Says, OfLines}
@@ -49,4 +51,15 @@ module _ (m : Meaning) (n : ℕ) (cs : List Call) where
   whole rs end e replies =
       let law = lawful-run OfLines unordered m n cs rs replies in
       let agrees = subst (Agrees (events (upon [] cs rs))) (sym e) (law .1) in
-      record { book = e; replies = replies; led = (law .0, agrees); tallies = counted end rs agrees; balanced = balanced-run OfLines unordered m n cs rs replies }
+      record { book = e; replies = replies; led = (law .0, agrees); tallies = counted end rs agrees; balanced = balanced-law OfLines m n (upon [] cs rs) (law .0) }
+
+-- the answers that are not written yet
+pub rest-more : (xs ys : List Answer) (i : ℕ) (r : Answer) → drop i xs ≡ drop i ys → drop (i + 1) (set xs i r) ≡ drop (i + 1) ys
+rest-more xs ys i r e = drop-set-lt (i + 1) xs i r (omega arith) ∙ sym (drop-drop 1 i xs) ∙ ap (drop 1) e ∙ drop-drop 1 i ys
+
+-- where the stage and the number are the ones that the run began with
+pub book-same : (m m′ : Meaning) (n n′ : ℕ) (b b′ : Book) (c : Call) → m′ ≡ m → n′ ≡ n → b′ ≡ next m′ n′ b c → b′ ≡ next m n b c
+book-same m m′ n n′ b b′ c em en e = e ∙ (λ i. next (em i) (en i) b c)
+
+pub told-same : (m m′ : Meaning) (n n′ : ℕ) (b : Book) (c : Call) (P : Type 0) (r : Answer) → m′ ≡ m → n′ ≡ n → Answers (told m′ n′ b c) P r → Answers (told m n b c) P r
+told-same m m′ n n′ b c P r em en = subst (λ o. Answers o P r) (λ i. told (em i) (en i) b c)
