@@ -29,7 +29,10 @@ fn slope_answer<S: Stage>(channel: &Channel<S>) -> Answer
     ensures { λ r. ⌜ SlopeSays (held (now (channel .entry) .register .places .all)) r ⌝ }
 {
     match channel.slope() {
-        Ok(bounds) => Answer::Slope { least: bounds.0, greatest: bounds.1 },
+        Ok(bounds) => Answer::Slope {
+            least: bounds.0,
+            greatest: bounds.1,
+        },
         Err(refusal) => Answer::Refused { refusal },
     }
 }
@@ -38,7 +41,10 @@ fn value_answer<S: Stage>(channel: &Channel<S>, argument: i32) -> Answer
     ensures { λ r. ⌜ ValueSays (held (now (channel .entry) .register .places .all)) argument r ⌝ }
 {
     match channel.value(argument) {
-        Ok(bounds) => Answer::Value { least: bounds.0, greatest: bounds.1 },
+        Ok(bounds) => Answer::Value {
+            least: bounds.0,
+            greatest: bounds.1,
+        },
         Err(refusal) => Answer::Refused { refusal },
     }
 }

@@ -31,11 +31,13 @@ loop-i-again g c =
     let within = c .loop-i-test .taken in
     let lc : i < length calls = omega (arith, c .min-i-end .ensures) in
     let la : i < length answers = omega (arith, c .min-i-end .ensures) in
-    let d = call.Open (pos 0) in
-    (did .number ∙ inv .0, did .stage ∙ inv .1,
-     book-more m n calls i d (page register) _ lc (inv .2) (book-same m _ n _ (page register) _ (getD calls i d) em (inv .0) (did .book)),
-     answers-more m n calls i d register answers r lc la (inv .2) (inv .3) (told-same m _ n _ (page register) (getD calls i d) (Says (held (register .places .all)) (getD calls i d) r) r em (inv .0) (did .told)),
-     rest-more answers (c .args .answers .now) i r (inv .4))
+    let d = call.Open (pos 0) in (
+      did .number ∙ inv .0,
+      did .stage ∙ inv .1,
+      book-more m n calls i d (page register) _ lc (inv .2) (book-same m _ n _ (page register) _ (getD calls i d) em (inv .0) (did .book)),
+      answers-more m n calls i d register answers r lc la (inv .2) (inv .3) (told-same m _ n _ (page register) (getD calls i d) (Says (held (register .places .all)) (getD calls i d) r) r em (inv .0) (did .told)),
+      rest-more answers (c .args .answers .now) i r (inv .4),
+    )
 
 pub returns : need.returns
 returns g c =
