@@ -8,7 +8,6 @@ mod tests {
     use channel::channel::Channel;
     use channel::replay::replay;
     use exact::fraction::Fraction;
-    use refusal::refusal::Refusal;
     use std::test::*;
 
     fn stage() -> Bounded {
@@ -52,9 +51,66 @@ mod tests {
         f.numerator.saturating_mul(2) == count.saturating_mul(f.denominator as i64)
     }
 
-    // Whether bounds are from so many halves to so many.
-    fn bounded_by(least: Fraction, low: i64, greatest: Fraction, high: i64) -> bool {
-        halves(least, low) && halves(greatest, high)
+    // The number of a refusal, and 0 of any other answer.
+    fn refused(answer: Answer) -> u8 {
+        match answer {
+            Answer::Refused { refusal } => refusal.number(),
+            _ => 0,
+        }
+    }
+
+    fn is_line(answer: Answer) -> bool {
+        matches!(answer, Answer::Line)
+    }
+
+    // The serials of a conflict, 0 for one that is absent; three times 0 of any other answer.
+    fn named(answer: Answer) -> (u32, u32, u32) {
+        match answer {
+            Answer::Conflicting { conflict } => (conflict.first, conflict.second, conflict.third.unwrap_or(0)),
+            _ => (0, 0, 0),
+        }
+    }
+
+    // Whether an answer is a slope, or a value, from so many halves to so many.
+    fn slope_between(answer: Answer, low: i64, high: i64) -> bool {
+        match answer {
+            Answer::Slope { least, greatest } => halves(least, low) && halves(greatest, high),
+            _ => false,
+        }
+    }
+
+    fn value_between(answer: Answer, low: i64, high: i64) -> bool {
+        match answer {
+            Answer::Value { least, greatest } => halves(least, low) && halves(greatest, high),
+            _ => false,
+        }
+    }
+
+    // The six tallies, and nothing of any other answer.
+    fn six(answer: Answer) -> [u32; 6] {
+        match answer {
+            Answer::Counted { tallies } => [tallies.opened, tallies.filed, tallies.spoiled, tallies.aborted, tallies.open, tallies.held],
+            _ => [0; 6],
+        }
+    }
+
+    // The serial that an answer tells, and 0 where it tells none.
+    fn serial(answer: Answer) -> u32 {
+        match answer {
+            Answer::Opened { serial, .. } => serial,
+            Answer::Filed { serial, .. } => serial,
+            Answer::Aborted { serial } => serial,
+            Answer::Withdrawn { serial } => serial,
+            _ => 0,
+        }
+    }
+
+    // The ends of a set that was filed.
+    fn ends(answer: Answer) -> (i32, i32) {
+        match answer {
+            Answer::Filed { lower, upper, .. } => (lower, upper),
+            _ => (0, 0),
+        }
     }
 
     #[test]
@@ -64,56 +120,26 @@ mod tests {
             open(1),
             open(2),
             open(3),
-            Call::Abort {
-                number: 7,
-                serial: 1,
-            },
+            Call::Abort { number: 7, serial: 1 },
             file(2, 100_000_000),
             file(3, 0),
             Call::Tallies,
         ];
         let mut answers = [Answer::Cleared; 8];
         let _run = replay(7, stage(), &calls, &mut answers);
-        check(matches!(
-            answers[3],
-            Answer::Opened {
-                number: 7,
-                serial: 4
-            }
-        ))?;
-        check(matches!(answers[4], Answer::Aborted { serial: 1 }))?;
-        check(matches!(
-            answers[5],
-            Answer::Refused {
-                refusal: Refusal::ReadingNotTaken {
-                    place: 1,
-                    value: 100_000_000
-                }
-            }
-        ))?;
-        check(matches!(
-            answers[6],
-            Answer::Filed {
-                serial: 3,
-                lower: -5,
-                upper: 5
-            }
-        ))?;
-        let Answer::Counted { tallies } = answers[7] else {
-            return Err(Fail::new("no tallies"));
-        };
-        check(tallies.opened == 4 && tallies.filed == 1 && tallies.spoiled == 1)?;
-        check(tallies.aborted == 1 && tallies.open == 1 && tallies.held == 1)
+        check_eq(serial(answers[3]), 4)?;
+        check_eq(serial(answers[4]), 1)?;
+        check_eq(refused(answers[5]), 5)?;
+        check_eq(serial(answers[6]), 3)?;
+        check_eq(ends(answers[6]), (-5, 5))?;
+        check_eq(six(answers[7]), [4, 1, 1, 1, 1, 1])
     }
 
     #[test]
     fn strangers_are_not_taken() -> Result<(), Fail> {
         let calls = [
             open(0),
-            Call::Abort {
-                number: 8,
-                serial: 1,
-            },
+            Call::Abort { number: 8, serial: 1 },
             file(2, 0),
             Call::Clear,
             file(1, 0),
@@ -124,89 +150,36 @@ mod tests {
             file(2, 0),
             file(2, 0),
             Call::Withdraw { serial: 2 },
-            Call::Verdict,
         ];
-        let mut answers = [Answer::Cleared; 13];
+        let mut answers = [Answer::Cleared; 12];
         let _run = replay(7, stage(), &calls, &mut answers);
-        check(matches!(
-            answers[1],
-            Answer::Refused {
-                refusal: Refusal::PointNotOpen
-            }
-        ))?;
-        check(matches!(
-            answers[2],
-            Answer::Refused {
-                refusal: Refusal::PointNotOpen
-            }
-        ))?;
-        check(matches!(
-            answers[4],
-            Answer::Refused {
-                refusal: Refusal::PointNotOpen
-            }
-        ))?;
-        check(matches!(
-            answers[5],
-            Answer::Refused {
-                refusal: Refusal::SerialNotHeld
-            }
-        ))?;
-        check(matches!(
-            answers[6],
-            Answer::Refused {
-                refusal: Refusal::ArgumentOutOfLimits
-            }
-        ))?;
-        check(matches!(
-            answers[7],
-            Answer::Opened {
-                number: 7,
-                serial: 2
-            }
-        ))?;
-        check(matches!(
-            answers[8],
-            Answer::Refused {
-                refusal: Refusal::SerialNotHeld
-            }
-        ))?;
-        check(matches!(answers[9], Answer::Filed { serial: 2, .. }))?;
-        check(matches!(
-            answers[10],
-            Answer::Refused {
-                refusal: Refusal::PointNotOpen
-            }
-        ))?;
-        check(matches!(answers[11], Answer::Withdrawn { serial: 2 }))?;
-        check(matches!(
-            answers[12],
-            Answer::Refused {
-                refusal: Refusal::NothingHeld
-            }
-        ))
+        check_eq(refused(answers[1]), 4)?;
+        check_eq(refused(answers[2]), 4)?;
+        check_eq(refused(answers[4]), 4)?;
+        check_eq(refused(answers[5]), 6)?;
+        check_eq(refused(answers[6]), 1)?;
+        check_eq(serial(answers[7]), 2)?;
+        check_eq(refused(answers[8]), 6)?;
+        check_eq(serial(answers[9]), 2)?;
+        check_eq(refused(answers[10]), 4)?;
+        check_eq(serial(answers[11]), 2)
+    }
+
+    #[test]
+    fn nothing_is_held() -> Result<(), Fail> {
+        let answers = sheet(&[], 0);
+        check_eq(refused(answers[32]), 7)?;
+        check_eq(refused(answers[33]), 7)?;
+        check_eq(refused(answers[34]), 7)
     }
 
     #[test]
     fn a_full_register() -> Result<(), Fail> {
-        let mut calls = [open(0); 66];
-        calls[65] = Call::Tallies;
-        let mut answers = [Answer::Cleared; 66];
+        let calls = [open(0); 65];
+        let mut answers = [Answer::Cleared; 65];
         let _run = replay(7, stage(), &calls, &mut answers);
-        check(matches!(
-            answers[63],
-            Answer::Opened {
-                number: 7,
-                serial: 64
-            }
-        ))?;
-        check(matches!(
-            answers[64],
-            Answer::Refused {
-                refusal: Refusal::NoFreePlace
-            }
-        ))?;
-        check(matches!(answers[65], Answer::Counted { .. }))
+        check_eq(serial(answers[63]), 64)?;
+        check_eq(refused(answers[64]), 2)
     }
 
     #[test]
@@ -230,91 +203,54 @@ mod tests {
                 let _ = channel.abort(point);
                 Err(Fail::new("a serial past the last one"))
             }
-            Err(refusal) => check(matches!(refusal, Refusal::NoSerialLeft)),
+            Err(refusal) => check_eq(refusal.number(), 3),
         }
     }
 
     #[test]
     fn three_that_conflict() -> Result<(), Fail> {
         let answers = sheet(&[(0, 0), (10, 100), (20, 300)], 0);
-        let Answer::Conflicting { conflict } = answers[32] else {
-            return Err(Fail::new("no conflict"));
-        };
-        check(conflict.first == 1 && conflict.second == 2)?;
-        check(matches!(conflict.third, Some(3)))?;
-        check(matches!(answers[33], Answer::Refused { refusal: Refusal::NoAdmissibleLine { .. } }))?;
-        check(matches!(answers[34], Answer::Refused { refusal: Refusal::NoAdmissibleLine { .. } }))?;
-        check(matches!(sheet(&[(0, 0), (10, 100), (20, 221)], 0)[32], Answer::Conflicting { .. }))
+        check_eq(named(answers[32]), (1, 2, 3))?;
+        check_eq(refused(answers[33]), 8)?;
+        check_eq(refused(answers[34]), 8)?;
+        check_eq(named(sheet(&[(0, 0), (10, 100), (20, 221)], 0)[32]), (1, 2, 3))
     }
 
     #[test]
     fn bounds_of_slope_and_value() -> Result<(), Fail> {
         let answers = sheet(&[(0, 0), (10, 100), (20, 200)], 30);
-        check(matches!(answers[32], Answer::Line))?;
-        let Answer::Slope { least, greatest } = answers[33] else {
-            return Err(Fail::new("no slope"));
-        };
-        check(bounded_by(least, 19, greatest, 21))?;
-        let Answer::Value { least, greatest } = answers[34] else {
-            return Err(Fail::new("no value"));
-        };
-        check(bounded_by(least, 580, greatest, 620))
-    }
-
-    #[test]
-    fn one_slope_alone() -> Result<(), Fail> {
-        let answers = sheet(&[(0, 0), (10, 100), (20, 220)], 30);
-        let Answer::Slope { least, greatest } = answers[33] else {
-            return Err(Fail::new("no slope"));
-        };
-        check(bounded_by(least, 22, greatest, 22))
+        check(is_line(answers[32]))?;
+        check(slope_between(answers[33], 19, 21))?;
+        check(value_between(answers[34], 580, 620))?;
+        check(slope_between(sheet(&[(0, 0), (10, 100), (20, 220)], 30)[33], 22, 22))
     }
 
     #[test]
     fn one_argument() -> Result<(), Fail> {
-        let apart = sheet(&[(10, 100), (10, 111)], 10);
-        let Answer::Conflicting { conflict } = apart[32] else {
-            return Err(Fail::new("no conflict"));
-        };
-        check(conflict.first == 1 && conflict.second == 2)?;
-        check(matches!(conflict.third, None))?;
+        check_eq(named(sheet(&[(10, 100), (10, 111)], 10)[32]), (1, 2, 0))?;
         let together = sheet(&[(10, 100), (10, 110)], 10);
-        check(matches!(together[33], Answer::Refused { refusal: Refusal::OneArgument }))?;
-        let Answer::Value { least, greatest } = together[34] else {
-            return Err(Fail::new("no value"));
-        };
-        check(bounded_by(least, 210, greatest, 210))?;
-        check(matches!(sheet(&[(10, 100), (10, 110)], 11)[34], Answer::Refused { refusal: Refusal::OneArgument }))
+        check_eq(refused(together[33]), 9)?;
+        check(value_between(together[34], 210, 210))?;
+        check_eq(refused(sheet(&[(10, 100), (10, 110)], 11)[34]), 9)
     }
 
     #[test]
     fn neighbours_are_not_enough() -> Result<(), Fail> {
         let squares = [(0, 0), (1, 1), (2, 4), (3, 9), (4, 16), (5, 25), (6, 36), (7, 49), (8, 64), (9, 81), (10, 100)];
-        check(matches!(sheet(&squares, 0)[32], Answer::Conflicting { .. }))?;
-        check(matches!(sheet(&[(4, 16), (5, 25), (6, 36)], 0)[32], Answer::Line))
+        check(named(sheet(&squares, 0)[32]) != (0, 0, 0))?;
+        check(is_line(sheet(&[(4, 16), (5, 25), (6, 36)], 0)[32]))?;
+        check_eq(named(sheet(&[(0, 0), (5, 25), (10, 100)], 0)[32]), (1, 2, 3))
     }
 
     #[test]
     fn the_shift_between_two_signs() -> Result<(), Fail> {
-        let answers = sheet(&[(-10, 0), (10, 0)], 0);
-        let Answer::Value { least, greatest } = answers[34] else {
-            return Err(Fail::new("no value"));
-        };
-        check(bounded_by(least, -10, greatest, 10))?;
-        check(matches!(sheet(&[(-10, 0), (10, 0)], 10_001)[34], Answer::Refused { refusal: Refusal::ArgumentOutOfLimits }))
+        check(value_between(sheet(&[(-10, 0), (10, 0)], 0)[34], -10, 10))?;
+        check_eq(refused(sheet(&[(-10, 0), (10, 0)], 10_001)[34]), 1)
     }
 
     #[test]
     fn the_limits_of_arguments_and_ends() -> Result<(), Fail> {
         let answers = sheet(&[(-10_000, -99_999_995), (10_000, 99_999_995)], 10_000);
-        let Answer::Slope { least, greatest } = answers[33] else {
-            return Err(Fail::new("no slope"));
-        };
-        check(least.numerator == 199_999_980 && least.denominator == 20_000)?;
-        check(greatest.numerator == 200_000_000 && greatest.denominator == 20_000)?;
-        let Answer::Value { least, greatest } = answers[34] else {
-            return Err(Fail::new("no value"));
-        };
-        check(bounded_by(least, 199_999_980, greatest, 200_000_000))
+        check(value_between(answers[34], 199_999_980, 200_000_000))
     }
 }
