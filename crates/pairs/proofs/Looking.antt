@@ -1,6 +1,6 @@
 -- One more pair looked at.
-use mathlib.Core.Path.{_≡_, refl, sym, ap, subst, _∙_}
-use mathlib.Core.Bool.{Bool, true, false, cond}
+use mathlib.Core.Path.{_≡_, refl, sym, ap, subst}
+use mathlib.Core.Bool.{Bool, true, cond}
 use mathlib.Core.Logic.{_⊎_, inl, inr, ⊎-elim}
 use mathlib.Core.List.{List}
 use native.Mathlib.Omega.{arith}
@@ -14,13 +14,12 @@ use Rattle.rational.specs.Rational.{_≼_}
 use Rattle.rational.proofs.Order.{≼-trans}
 use Rattle.exact.specs.Quantity.{quantity, atMost}
 use Rattle.lines.specs.Sheet.{Measurement}
-use Rattle.lines.specs.Slopes.{Rises}
 use Rattle.places.specs.declared.sample.Sample.{Sample}
 use Rattle.places.specs.Samples.{measured}
 use Rattle.pairs.specs.declared.quantity.Quantity.{Quantity}
 use Rattle.pairs.specs.declared.candidate.Candidate.{Candidate}
 use Rattle.pairs.specs.Low.{lowOf, lowOfPair, Writes}
-use Rattle.pairs.specs.Best.{Below, Among, Covers, MadeOf, Looked}
+use Rattle.pairs.specs.Best.{Among, Covers, MadeOf, Looked}
 use Rattle.pairs.proofs.Written.{written-over, same-low}
 
 module _ (q : Quantity) (a b : Sample) where

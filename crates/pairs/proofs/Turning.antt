@@ -17,15 +17,13 @@ use Rattle.lines.specs.Values.{most, least}
 use Rattle.lines.specs.Mirror.{mirrored}
 use Rattle.lines.proofs.Members.{has-map, each-of-map}
 use Rattle.lines.proofs.Values.{most-mirrored}
-use Rattle.places.specs.Samples.{measured}
 use Rattle.places.proofs.Turned.{same-measurement}
 use Rattle.pairs.specs.declared.quantity.Quantity.{Quantity}
 use Rattle.pairs.specs.declared.quantity.Quantity.the-variants.{Slope, Value}
 use Rattle.pairs.specs.declared.candidate.Candidate.{Candidate}
-use Rattle.pairs.specs.declared.rising.Rising.{Rising}
-use Rattle.pairs.specs.Low.{lowOf, lowOfPair, Writes}
+use Rattle.pairs.specs.Low.{lowOf, Writes}
 use Rattle.pairs.specs.Best.{GreatestLow}
-use Rattle.pairs.specs.Narrowest.{highOf, highOfPair, LowBound, HighBound, TurnedPair, Turned}
+use Rattle.pairs.specs.Narrowest.{highOf, LowBound, HighBound, Turned}
 
 pub twice : (m : Measurement) → mirrored (mirrored m) ≡ m
 twice m = same-measurement (mirrored (mirrored m)) m refl refl (negℤ-negℤ (m .lower)) (negℤ-negℤ (m .upper))

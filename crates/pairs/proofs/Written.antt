@@ -1,5 +1,5 @@
 -- A fraction that writes a rational number is as great as that number.
-use mathlib.Core.Path.{_≡_, refl, sym, ap, _∙_}
+use mathlib.Core.Path.{_≡_, sym}
 use native.Mathlib.Omega.{arith}
 use lib.IntN.{pos, _*ℤ_}
 use Rattle.algebra.proofs.Ring.{linear}
@@ -8,11 +8,9 @@ use Rattle.exact.specs.Quantity.{quantity}
 use Rattle.exact.specs.declared.fraction.Fraction.{Fraction}
 use Rattle.lines.specs.Slopes.{Rises}
 use Rattle.lines.specs.Sheet.{Measurement}
-use Rattle.places.specs.Samples.{measured}
 use Rattle.pairs.specs.declared.quantity.Quantity.{Quantity}
 use Rattle.pairs.specs.declared.quantity.Quantity.the-variants.{Slope, Value}
-use Rattle.pairs.specs.declared.rising.Rising.{Rising}
-use Rattle.pairs.specs.Low.{lowOf, lowOfPair, Writes}
+use Rattle.pairs.specs.Low.{lowOf, Writes}
 
 module _ (f : Fraction) (r : Rational) (w : Writes f r) where
   crossed : r .num *ℤ pos (f .denominator) ≡ f .numerator *ℤ r .den

@@ -7,7 +7,7 @@ use Rattle.algebra.proofs.Ring.{linear}
 use Rattle.rational.specs.Rational.{_≺_}
 use Rattle.refusal.specs.declared.conflict.Conflict.{Conflict as Naming}
 use Rattle.lines.specs.Sheet.{Measurement}
-use Rattle.lines.specs.Slopes.{Rises, lowSlope, highSlope, LowChord, HighChord}
+use Rattle.lines.specs.Slopes.{Rises, lowSlope, highSlope, LowChord}
 use Rattle.lines.specs.Mirror.{mirrored}
 use Rattle.lines.proofs.Triples.{broken-low, broken-high}
 use Rattle.lines.proofs.Named.{conflict-inside, conflict-before, conflict-around, conflict-after}

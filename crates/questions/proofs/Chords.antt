@@ -14,7 +14,7 @@ use Rattle.exact.proofs.Products.{within}
 use Rattle.lines.specs.Sheet.{Measurement}
 use Rattle.lines.specs.Slopes.{LowChord, HighChord}
 use Rattle.lines.specs.Mirror.{mirrored}
-use Rattle.pairs.proofs.Sizes.{Small, Weight, distance, summed, sum-cast}
+use Rattle.pairs.proofs.Sizes.{Small, distance, summed, sum-cast}
 use Rattle.questions.specs.Naming.{ChordAbove}
 
 pub record End (e : ℤ) : Type 0 where

@@ -14,7 +14,6 @@ use Rattle.lines.specs.Sheet.{Measurement, Admissible, Consistent, Greatest, Le
 use Rattle.lines.proofs.Consistency.{least-slope, greatest-slope}
 use Rattle.lines.proofs.Candidates.{pairs-least-high, pairs-greatest-low}
 use Rattle.lines.proofs.ValueBounds.{value-greatest, value-least}
-use Rattle.places.specs.Samples.{measured}
 use Rattle.pairs.specs.declared.quantity.Quantity.{Quantity}
 use Rattle.pairs.specs.declared.quantity.Quantity.the-variants.{Slope, Value}
 use Rattle.pairs.specs.declared.candidate.Candidate.{Candidate}

@@ -1,6 +1,6 @@
 -- Two measurements at one argument that have a value in common.
 use mathlib.Core.Path.{_≡_}
-use mathlib.Core.Logic.{inl, inr}
+use mathlib.Core.Logic.{inr}
 use mathlib.Core.List.{List, [], _∷_}
 use lib.Signed.{_≤ℤ_}
 use Rattle.std.specs.shelf.Lists.{Has}

@@ -1,4 +1,3 @@
-ghost use lib.IntN.{ℤ};
 ghost use Rattle.places.specs.Held.{held};
 ghost use Rattle.pairs.specs.Low.{quantityOf};
 ghost use Rattle.questions.specs.Told.{TellsVerdict, TellsBounds, TellsSlope, TellsValue, TwoAndThree};

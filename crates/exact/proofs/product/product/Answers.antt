@@ -1,5 +1,5 @@
-use mathlib.Core.Path.{_≡_, sym, ap, subst, _∙_}
-use mir.Syntax.{w32, w64}
+use mathlib.Core.Path.{sym, ap, subst, _∙_}
+use mir.Syntax.{w64}
 use mir.Val.{SFits, toZ, ofZ}
 use Rattle.std.proofs.shelf.Signed.{toZ-ofZ}
 use Rattle.exact.proofs.Products.{half-fits, half-cast}

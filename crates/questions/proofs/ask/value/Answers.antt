@@ -1,7 +1,6 @@
 use mathlib.Core.Path.{_≡_, subst, _∙_}
 use mathlib.Core.Logic.{inr, ⊎-elim}
 use native.Mathlib.Omega.{arith}
-use lib.IntN.{ℤ}
 use mir.Syntax.{w32}
 use Rattle.std.proofs.shelf.Signed.{ints, toZ-ofZ}
 use Rattle.rational.specs.Line.{valueAt}

@@ -1,12 +1,11 @@
-use mathlib.Core.Path.{_≡_, sym, ap, subst, _∙_}
-use lib.IntN.{ℤ, negℤ}
+use mathlib.Core.Path.{sym, ap, subst, _∙_}
+use lib.IntN.{negℤ}
 use mir.Syntax.{w32}
 use mir.Val.{SFits}
 use borrow.Author.Needs.{needs}
 use Rattle.std.specs.declared.option.Option.the-variants.{Some, None}
 use Rattle.std.proofs.shelf.Signed.{toZ-ofZ}
 use Rattle.refusal.specs.declared.refusal.Refusal.the-variants as refusal
-use Rattle.pairs.specs.declared.quantity.Quantity.{Quantity}
 use Rattle.pairs.specs.Low.{quantityOf}
 use Rattle.places.specs.Held.{held}
 use Rattle.questions.specs.Told.{Bounds, NoBounds}

@@ -1,5 +1,5 @@
 use mathlib.Core.Path.{_≡_, _∙_}
-use lib.IntN.{_*ℤ_, _-ℤ_}
+use lib.IntN.{_*ℤ_}
 use mir.Syntax.{w32, w64}
 use mir.Val.{SFits, toZ, ofZ}
 use borrow.Author.Needs.{needs}
