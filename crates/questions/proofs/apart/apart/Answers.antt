@@ -1,5 +1,6 @@
 use mathlib.Core.Path.{_≡_, sym}
 use mathlib.Core.List.{List}
+use Prim.Native.Nat.{_<_}
 use native.Mathlib.Omega.{arith}
 use lib.ListN.{length}
 use borrow.Author.Needs.{needs}
@@ -23,8 +24,9 @@ loop-a-holds c = let ps = c .args .places .now .all in (row-none (Meets-all ps) 
 pub loop-a-again-in-rest : need.loop-a-again-in-rest
 loop-a-again-in-rest c =
     let ps = c .args .places .now .all in
+    let lt : c .loop-a .a-index < 64 = c .loop-a-test .taken in
     let long : length ps ≡ 64 = search needs in
-    (row-same (Meets-all ps) ps (c .loop-a .a-index) (omega (arith, c .loop-a-test .taken)) _ (sym (c .in-rest .ensures tt)) (c .loop-a .inv .0), λ more. long)
+    (row-same (Meets-all ps) ps (c .loop-a .a-index) (omega arith) _ (sym (c .in-rest .ensures tt)) (c .loop-a .inv .0), λ more. long)
 
 pub loop-b-holds : need.loop-b-holds
 loop-b-holds c =
