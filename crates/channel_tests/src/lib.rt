@@ -66,7 +66,11 @@ mod tests {
     // The serials of a conflict, 0 for one that is absent; three times 0 of any other answer.
     fn named(answer: Answer) -> (u32, u32, u32) {
         match answer {
-            Answer::Conflicting { conflict } => (conflict.first, conflict.second, conflict.third.unwrap_or(0)),
+            Answer::Conflicting { conflict } => (
+                conflict.first,
+                conflict.second,
+                conflict.third.unwrap_or(0),
+            ),
             _ => (0, 0, 0),
         }
     }
@@ -89,7 +93,14 @@ mod tests {
     // The six tallies, and nothing of any other answer.
     fn six(answer: Answer) -> [u32; 6] {
         match answer {
-            Answer::Counted { tallies } => [tallies.opened, tallies.filed, tallies.spoiled, tallies.aborted, tallies.open, tallies.held],
+            Answer::Counted { tallies } => [
+                tallies.opened,
+                tallies.filed,
+                tallies.spoiled,
+                tallies.aborted,
+                tallies.open,
+                tallies.held,
+            ],
             _ => [0; 6],
         }
     }
@@ -120,7 +131,10 @@ mod tests {
             open(1),
             open(2),
             open(3),
-            Call::Abort { number: 7, serial: 1 },
+            Call::Abort {
+                number: 7,
+                serial: 1,
+            },
             file(2, 100_000_000),
             file(3, 0),
             Call::Tallies,
@@ -139,7 +153,10 @@ mod tests {
     fn strangers_are_not_taken() -> Result<(), Fail> {
         let calls = [
             open(0),
-            Call::Abort { number: 8, serial: 1 },
+            Call::Abort {
+                number: 8,
+                serial: 1,
+            },
             file(2, 0),
             Call::Clear,
             file(1, 0),
@@ -213,7 +230,10 @@ mod tests {
         check_eq(named(answers[32]), (1, 2, 3))?;
         check_eq(refused(answers[33]), 8)?;
         check_eq(refused(answers[34]), 8)?;
-        check_eq(named(sheet(&[(0, 0), (10, 100), (20, 221)], 0)[32]), (1, 2, 3))
+        check_eq(
+            named(sheet(&[(0, 0), (10, 100), (20, 221)], 0)[32]),
+            (1, 2, 3),
+        )
     }
 
     #[test]
@@ -236,10 +256,25 @@ mod tests {
 
     #[test]
     fn neighbours_are_not_enough() -> Result<(), Fail> {
-        let squares = [(0, 0), (1, 1), (2, 4), (3, 9), (4, 16), (5, 25), (6, 36), (7, 49), (8, 64), (9, 81), (10, 100)];
+        let squares = [
+            (0, 0),
+            (1, 1),
+            (2, 4),
+            (3, 9),
+            (4, 16),
+            (5, 25),
+            (6, 36),
+            (7, 49),
+            (8, 64),
+            (9, 81),
+            (10, 100),
+        ];
         check(named(sheet(&squares, 0)[32]) != (0, 0, 0))?;
         check(is_line(sheet(&[(4, 16), (5, 25), (6, 36)], 0)[32]))?;
-        check_eq(named(sheet(&[(0, 0), (5, 25), (10, 100)], 0)[32]), (1, 2, 3))
+        check_eq(
+            named(sheet(&[(0, 0), (5, 25), (10, 100)], 0)[32]),
+            (1, 2, 3),
+        )
     }
 
     #[test]

@@ -30,19 +30,20 @@ module _ (q : Quantity) (a b : Sample) where
   own : (c : Candidate) → c .pair .first ≡ a → c .pair .second ≡ b → Writes (c .bound) (lowOfPair q (c .pair)) → Covers q (Some c) (measured a) (measured b)
   own c ea eb w =
       subst (λ x. Covers q (Some c) (measured x) (measured b)) ea (subst (λ y. Covers q (Some c) (measured (c .pair .first)) (measured y)) eb (λ h.
-        written-over (c .bound) _ (same-low q (measured (c .pair .first)) (measured (c .pair .second)) (c .pair .rises) h (c .bound) w)))
+      written-over (c .bound) _ (same-low q (measured (c .pair .first)) (measured (c .pair .second)) (c .pair .rises) h (c .bound) w)))
 
   module _ (new : Candidate) (ea : new .pair .first ≡ a) (eb : new .pair .second ≡ b) (w : Writes (new .bound) (lowOfPair q (new .pair))) where
     pub begun : Looked q None a b (Some new)
     begun = record { covers = own new ea eb w; keeps = λ x under. absurd under; origin = inr (ea, eb, w) }
 
     pub picked : (old r : Candidate) (t : Bool) → r ≡ cond t old new
-      → atMost (quantity (new .bound)) (quantity (r .bound)) ≡ true → atMost (quantity (old .bound)) (quantity (r .bound)) ≡ true
-      → Looked q (Some old) a b (Some r)
-    picked old r t is over-new over-old = record
-      { covers = λ h. ≼-trans (lowOf q (measured a) (measured b) h) (quantity (new .bound)) (quantity (r .bound)) (own new ea eb w h) (test-le over-new)
-      ; keeps = λ x under. ≼-trans x (quantity (old .bound)) (quantity (r .bound)) under (test-le over-old)
-      ; origin = ⊎-elim (λ e. inl (ap Some e)) (λ e. inr (subst (λ c. MadeOf q a b (Some c)) (sym e) (ea, eb, w))) (cases-cond t old new r is) }
+        → atMost (quantity (new .bound)) (quantity (r .bound)) ≡ true → atMost (quantity (old .bound)) (quantity (r .bound)) ≡ true
+        → Looked q (Some old) a b (Some r)
+    picked old r t is over-new over-old = record {
+      covers = λ h. ≼-trans (lowOf q (measured a) (measured b) h) (quantity (new .bound)) (quantity (r .bound)) (own new ea eb w h) (test-le over-new);
+      keeps = λ x under. ≼-trans x (quantity (old .bound)) (quantity (r .bound)) under (test-le over-old);
+      origin = ⊎-elim (λ e. inl (ap Some e)) (λ e. inr (subst (λ c. MadeOf q a b (Some c)) (sym e) (ea, eb, w))) (cases-cond t old new r is);
+    }
 
 module _ (q : Quantity) (best : Option Candidate) (a b : Sample) (r : Option Candidate) (look : Looked q best a b r) where
   pub looked-covers : (x y : Measurement) → Covers q best x y → Covers q r x y

@@ -40,39 +40,44 @@ module _ (q : Quantity) (ps : List Place) where
   start = record { among = tt; rows = row-none (Done None) ps; long = λ more. absurd (omega arith) }
 
   pub finish : (m : ℕ) (best : Option Candidate) → 64 ≤ m → Sofar q ps m best → GreatestLow q (held ps) best
-  finish m best full s = record
-    { among = s .among
-    ; covers = λ a b atA. row-all (Done best) ps m (omega (arith, s .long (omega arith))) (s .rows) a atA b }
+  finish m best full s = record {
+    among = s .among;
+    covers = λ a b atA. row-all (Done best) ps m (omega (arith, s .long (omega arith))) (s .rows) a atA b;
+  }
 
   module _ (m : ℕ) (best : Option Candidate) (long : length ps ≡ 64) (lt : m < 64) (d : Place) where
     pub skip-row : sampled (getD ps m d) ≡ None → Sofar q ps m best → Sofar q ps (m + 1) best
-    skip-row none s = record
-      { among = s .among
-      ; rows = row-same (Done best) ps m (omega arith) d none (s .rows)
-      ; long = λ more. long }
+    skip-row none s = record {
+      among = s .among;
+      rows = row-same (Done best) ps m (omega arith) d none (s .rows);
+      long = λ more. long;
+    }
 
     module _ (a : Sample) (some : sampled (getD ps m d) ≡ Some a) where
       pub begin-row : Sofar q ps m best → Within q ps m a 0 best
       begin-row s = record { among = s .among; rows = s .rows; row = row-none (Covers q best (measured a)) ps; long = long }
 
       pub end-row : (n : ℕ) → 64 ≤ n → Within q ps m a n best → Sofar q ps (m + 1) best
-      end-row n full s = record
-        { among = s .among
-        ; rows = row-more (Done best) ps m (omega arith) d a some (row-all (Covers q best (measured a)) ps n (omega arith) (s .row)) (s .rows)
-        ; long = λ more. long }
+      end-row n full s = record {
+        among = s .among;
+        rows = row-more (Done best) ps m (omega arith) d a some (row-all (Covers q best (measured a)) ps n (omega arith) (s .row)) (s .rows);
+        long = λ more. long;
+      }
 
   module _ (m : ℕ) (a : Sample) (n : ℕ) (best : Option Candidate) (s : Within q ps m a n best) (lt : n < 64) (d : Place) where
     pub skip : sampled (getD ps n d) ≡ None → Within q ps m a (n + 1) best
-    skip none = record
-      { among = s .among
-      ; rows = s .rows
-      ; row = row-same (Covers q best (measured a)) ps n (omega (arith, s .long)) d none (s .row)
-      ; long = s .long }
+    skip none = record {
+      among = s .among;
+      rows = s .rows;
+      row = row-same (Covers q best (measured a)) ps n (omega (arith, s .long)) d none (s .row);
+      long = s .long;
+    }
 
     pub step : (r : Option Candidate) (b : Sample) → sampled (getD ps n d) ≡ Some b → Has (held ps) (measured a) → Looked q best a b r → Within q ps m a (n + 1) r
-    step r b some atA look = record
-      { among = looked-among q best a b r look (held ps) atA (has-here ps n (omega (arith, s .long)) d b some) (s .among)
-      ; rows = λ x atX y atY. looked-covers q best a b r look x y (s .rows x atX y atY)
-      ; row = row-more (Covers q r (measured a)) ps n (omega (arith, s .long)) d b some (look .covers)
-          (λ y atY. looked-covers q best a b r look (measured a) y (s .row y atY))
-      ; long = s .long }
+    step r b some atA look = record {
+      among = looked-among q best a b r look (held ps) atA (has-here ps n (omega (arith, s .long)) d b some) (s .among);
+      rows = λ x atX y atY. looked-covers q best a b r look x y (s .rows x atX y atY);
+      row = row-more (Covers q r (measured a)) ps n (omega (arith, s .long)) d b some (look .covers)
+          (λ y atY. looked-covers q best a b r look (measured a) y (s .row y atY));
+      long = s .long;
+    }

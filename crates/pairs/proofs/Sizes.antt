@@ -33,10 +33,10 @@ least-small a w h =
     let t = a .set in
     let most = pos 100000000 in
     by-ltZ w (pos 0)
-      (λ lt. let k = within (t .upper) w most (pos 20000) (omega (arith, linear, t .low, t .ordered)) (t .high) (h .low) (h .high) in
-        let e = least-down (measured a) w (omega (arith, linear)) in record { low = omega (arith, linear); high = omega (arith, linear) })
-      (λ ge. let k = within (t .lower) w most (pos 20000) (t .low) (omega (arith, linear, t .ordered, t .high)) (h .low) (h .high) in
-        let e = least-up (measured a) w (omega (arith, linear)) in record { low = omega (arith, linear); high = omega (arith, linear) })
+    (λ lt. let k = within (t .upper) w most (pos 20000) (omega (arith, linear, t .low, t .ordered)) (t .high) (h .low) (h .high) in
+    let e = least-down (measured a) w (omega (arith, linear)) in record { low = omega (arith, linear); high = omega (arith, linear) })
+    (λ ge. let k = within (t .lower) w most (pos 20000) (t .low) (omega (arith, linear, t .ordered, t .high)) (h .low) (h .high) in
+    let e = least-up (measured a) w (omega (arith, linear)) in record { low = omega (arith, linear); high = omega (arith, linear) })
 
 module _ (a : Sample) where
   pub lower-fits : SFits w32 (a .set .lower)

@@ -39,19 +39,27 @@ pub record Opposed (a b : Rational) : Type 0 where
 pub low-opposed : (q : Quantity) (j i : Measurement) (h : Rises j i) → Opposed (lowOf q (mirrored j) (mirrored i) h) (highOf q j i h)
 low-opposed Slope j i h = record { num = omega (arith, linear); den = refl }
 low-opposed (Value x) j i h = record
-  { num = omega (arith, linear, least-mirrored j (i .argument -ℤ x .value), least-mirrored i (x .value -ℤ j .argument)); den = refl }
+    { num = omega (arith, linear, least-mirrored j (i .argument -ℤ x .value), least-mirrored i (x .value -ℤ j .argument)); den = refl }
 
 pub high-opposed : (q : Quantity) (j i : Measurement) (h : Rises j i) → Opposed (highOf q (mirrored j) (mirrored i) h) (lowOf q j i h)
 high-opposed Slope j i h = record { num = omega (arith, linear); den = refl }
 high-opposed (Value x) j i h = record
-  { num = omega (arith, linear, most-mirrored j (i .argument -ℤ x .value), most-mirrored i (x .value -ℤ j .argument)); den = refl }
+    { num = omega (arith, linear, most-mirrored j (i .argument -ℤ x .value), most-mirrored i (x .value -ℤ j .argument)); den = refl }
 
 -- an order turns round
 opposed-under : (f g : Fraction) (low high : Rational) → g .numerator ≡ negℤ (f .numerator) → g .denominator ≡ f .denominator
-  → Opposed low high → low ≼ quantity f → quantity g ≼ high
+    → Opposed low high → low ≼ quantity f → quantity g ≼ high
 opposed-under f g low high en ed o le =
-    omega (arith, linear, ap (λ n. n *ℤ high .den) en, neg-left (f .numerator) (high .den), ap (λ (d : ℕ). high .num *ℤ pos d) ed,
-      ap (λ n. n *ℤ pos (f .denominator)) (o .num), neg-left (high .num) (pos (f .denominator)), ap (λ d. f .numerator *ℤ d) (o .den))
+    omega (
+      arith,
+      linear,
+      ap (λ n. n *ℤ high .den) en,
+      neg-left (f .numerator) (high .den),
+      ap (λ (d : ℕ). high .num *ℤ pos d) ed,
+      ap (λ n. n *ℤ pos (f .denominator)) (o .num),
+      neg-left (high .num) (pos (f .denominator)),
+      ap (λ d. f .numerator *ℤ d) (o .den),
+    )
 
 -- the high of the pair turned
 module _ (j i k m : Measurement) (h : Rises j i) (g : Rises k m) (ej : k ≡ mirrored j) (ei : m ≡ mirrored i) where
@@ -65,10 +73,11 @@ module _ (j i k m : Measurement) (h : Rises j i) (g : Rises k m) (ej : k ≡ mir
   turned-den (Value x) = λ n. ei n .argument -ℤ ej n .argument
 
   turned-writes : (q : Quantity) (a b : Fraction) → b .numerator ≡ negℤ (a .numerator) → b .denominator ≡ a .denominator
-    → Writes a (lowOf q j i h) → Writes b (highOf q k m g)
-  turned-writes q a b en ed w = record
-    { numerator = en ∙ ap negℤ (w .numerator) ∙ sym (turned-num q)
-    ; denominator = ap pos ed ∙ w .denominator ∙ sym (turned-den q) }
+      → Writes a (lowOf q j i h) → Writes b (highOf q k m g)
+  turned-writes q a b en ed w = record {
+    numerator = en ∙ ap negℤ (w .numerator) ∙ sym (turned-num q);
+    denominator = ap pos ed ∙ w .denominator ∙ sym (turned-den q);
+  }
 
 pub one-argument : (s : List Measurement) → ((a b : Measurement) → Has s a → Has s b → Rises a b → ⊥) → OneArgument s
 one-argument s none a b atA atB =
@@ -90,9 +99,10 @@ module _ (q : Quantity) (s : List Measurement) where
   back = each-of-map (λ m. Has s (mirrored m)) mirrored s (λ m at. subst (Has s) (sym (twice m)) at)
 
   pub high-bound : (c r : Candidate) → Turned c r → GreatestLow q (map mirrored s) (Some c) → HighBound q s r
-  high-bound c r t g = record
-    { first = subst (Has s) (sym (t .pair .first)) (back _ (g .among .0))
-    ; second = subst (Has s) (sym (t .pair .second)) (back _ (g .among .1))
-    ; writes = turned-writes _ _ _ _ (c .pair .rises) (r .pair .rises) (t .pair .first) (t .pair .second) q (c .bound) (r .bound) (t .numerator) (t .denominator) (g .among .2)
-    ; under = λ a b atA atB h. opposed-under (c .bound) (r .bound) _ (highOf q a b h) (t .numerator) (t .denominator) (low-opposed q a b h)
-        (g .covers (mirrored a) (mirrored b) (has-map mirrored s a atA) (has-map mirrored s b atB) h) }
+  high-bound c r t g = record {
+    first = subst (Has s) (sym (t .pair .first)) (back _ (g .among .0));
+    second = subst (Has s) (sym (t .pair .second)) (back _ (g .among .1));
+    writes = turned-writes _ _ _ _ (c .pair .rises) (r .pair .rises) (t .pair .first) (t .pair .second) q (c .bound) (r .bound) (t .numerator) (t .denominator) (g .among .2);
+    under = λ a b atA atB h. opposed-under (c .bound) (r .bound) _ (highOf q a b h) (t .numerator) (t .denominator) (low-opposed q a b h)
+        (g .covers (mirrored a) (mirrored b) (has-map mirrored s a atA) (has-map mirrored s b atB) h);
+  }

@@ -28,13 +28,21 @@ pub fn greatest_low(quantity: Quantity, places: &Places) -> Option<Candidate>
 }
 
 // The best so far with one more pair looked at.
-fn with_pair(best: Option<Candidate>, quantity: Quantity, first: Sample, second: Sample) -> Option<Candidate>
+fn with_pair(
+    best: Option<Candidate>,
+    quantity: Quantity,
+    first: Sample,
+    second: Sample,
+) -> Option<Candidate>
     ensures { λ r. ⌜ Looked quantity best first second r ⌝ }
 {
     let Some(pair) = Rising::new(first, second) else {
         return best;
     };
-    let new = Candidate { pair, bound: quantity.low(pair) };
+    let new = Candidate {
+        pair,
+        bound: quantity.low(pair),
+    };
     match best {
         Some(old) => Some(greater(new, old)),
         None => Some(new),

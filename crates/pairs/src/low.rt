@@ -17,7 +17,11 @@ impl Rising {
     pub fn new(first: Sample, second: Sample) -> Option<Rising>
         ensures { λ r. ⌜ BySome r (second .argument .value ≤ℤ first .argument .value) (λ p. (p .first ≡ first) × (p .second ≡ second)) ⌝ }
     {
-        if first.argument.value < second.argument.value { Some(Rising { first, second }) } else { None }
+        if first.argument.value < second.argument.value {
+            Some(Rising { first, second })
+        } else {
+            None
+        }
     }
 }
 
@@ -42,7 +46,11 @@ impl Quantity {
 fn least(sample: Sample, weight: i32) -> i64
     ensures { λ r. ⌜ r ≡ least (measured sample) weight ⌝ }
 {
-    if weight < 0 { product(sample.set.upper, weight) } else { product(sample.set.lower, weight) }
+    if weight < 0 {
+        product(sample.set.upper, weight)
+    } else {
+        product(sample.set.lower, weight)
+    }
 }
 
 // The numerator over the distance from the first argument to the second.
@@ -51,5 +59,8 @@ fn over_span(numerator: i64, pair: Rising) -> Fraction
     ensures numerator { λ r. ⌜ r .numerator ≡ numerator ⌝ }
     ensures span { λ r. ⌜ pos (r .denominator) ≡ pair .second .argument .value -ℤ pair .first .argument .value ⌝ }
 {
-    Fraction { numerator, denominator: (pair.second.argument.value - pair.first.argument.value) as u16 }
+    Fraction {
+        numerator,
+        denominator: (pair.second.argument.value - pair.first.argument.value) as u16,
+    }
 }

@@ -12,7 +12,10 @@ impl Rising {
     pub fn mirrored(self) -> Rising
         ensures { λ r. ⌜ TurnedPair self r ⌝ }
     {
-        Rising { first: self.first.mirrored(), second: self.second.mirrored() }
+        Rising {
+            first: self.first.mirrored(),
+            second: self.second.mirrored(),
+        }
     }
 }
 
@@ -21,7 +24,10 @@ impl Candidate {
     pub fn mirrored(self) -> Candidate
         ensures { λ r. ⌜ Turned self r ⌝ }
     {
-        Candidate { pair: self.pair.mirrored(), bound: self.bound.opposite() }
+        Candidate {
+            pair: self.pair.mirrored(),
+            bound: self.bound.opposite(),
+        }
     }
 }
 
@@ -37,5 +43,8 @@ pub fn narrowest(quantity: Quantity, places: &Places) -> Option<Extremes>
     let Some(opposite) = greatest_low(quantity, &turned) else {
         return None;
     };
-    Some(Extremes { least, greatest: opposite.mirrored() })
+    Some(Extremes {
+        least,
+        greatest: opposite.mirrored(),
+    })
 }

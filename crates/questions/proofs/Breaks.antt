@@ -26,8 +26,14 @@ module _ (j i k m : Measurement) (r : Naming) (ji : Rises j i) (km : Rises k m) 
   pub high-named : i .argument <ℤ m .argument → ChordAbove (mirrored j) (mirrored i) (mirrored m) → NamesThree j i m r → Broken t r
   high-named im above names =
       let (atJ, (atI, (atK, (atM, _)))) = all-has-itself t in
-      record { a = j; b = i; c = m; among = (atJ, (atI, (atM, tt)))
-             ; conflict = broken-high j i m (omega (arith, linear)) (omega (arith, linear)) (high-broken j i m above); names = names }
+      record {
+        a = j;
+        b = i;
+        c = m;
+        among = (atJ, (atI, (atM, tt)));
+        conflict = broken-high j i m (omega (arith, linear)) (omega (arith, linear)) (high-broken j i m above);
+        names = names;
+      }
 
   module _ (jk : j .argument ≤ℤ k .argument) (names : NamesThree j k m r) where
     pub inside-named : LowChord k m i → Broken t r

@@ -51,8 +51,8 @@ when-less p q P Q yes′ no′ = by (ltZ p q) refl
     by false e = no′ (omega (arith, ints))
 
 pub chord-told : (a b c : Measurement) (y z w : ℤ) → Small y → Small z → Small w
-  → y ≡ a .lower *ℤ (c .argument -ℤ b .argument) → z ≡ c .lower *ℤ (b .argument -ℤ a .argument) → w ≡ b .upper *ℤ (c .argument -ℤ a .argument)
-  → When (ltZ (toZ w64 (ofZ w64 w)) (toZ w64 (ofZ w64 (toZ w64 (ofZ w64 y) +ℤ toZ w64 (ofZ w64 z))))) (ChordAbove a b c) (LowChord a b c)
+    → y ≡ a .lower *ℤ (c .argument -ℤ b .argument) → z ≡ c .lower *ℤ (b .argument -ℤ a .argument) → w ≡ b .upper *ℤ (c .argument -ℤ a .argument)
+    → When (ltZ (toZ w64 (ofZ w64 w)) (toZ w64 (ofZ w64 (toZ w64 (ofZ w64 y) +ℤ toZ w64 (ofZ w64 z))))) (ChordAbove a b c) (LowChord a b c)
 chord-told a b c y z w sy sz sw ey ez ew =
     let sum = sum-cast y z sy sz in
     let same : toZ w64 (ofZ w64 w) ≡ w = omega (arith, ints, sw .low, sw .high) in
@@ -63,7 +63,7 @@ module _ (a b c : Measurement) where
   high-kept h = omega (arith, linear, h, neg-left (a .upper) (c .argument -ℤ b .argument), neg-left (c .upper) (b .argument -ℤ a .argument), neg-left (b .lower) (c .argument -ℤ a .argument))
 
   pub high-broken : ChordAbove (mirrored a) (mirrored b) (mirrored c)
-    → (a .upper *ℤ (c .argument -ℤ b .argument) +ℤ c .upper *ℤ (b .argument -ℤ a .argument)) <ℤ (b .lower *ℤ (c .argument -ℤ a .argument))
+      → (a .upper *ℤ (c .argument -ℤ b .argument) +ℤ c .upper *ℤ (b .argument -ℤ a .argument)) <ℤ (b .lower *ℤ (c .argument -ℤ a .argument))
   high-broken h = omega (arith, linear, h, neg-left (a .upper) (c .argument -ℤ b .argument), neg-left (c .upper) (b .argument -ℤ a .argument), neg-left (b .lower) (c .argument -ℤ a .argument))
 
 -- of three measurements that are known by another name

@@ -44,13 +44,13 @@ module _ (s : List Measurement) (line : Consistent s) (low high : Candidate) whe
   least-told Slope l h = least-written slope s _ (low .bound) (l .writes) (least-slope s line _ _ (steepest s low high l h))
   least-told (Value x) l h =
       value-least s (x .value) (quantity (low .bound)) line
-        (pairs-greatest-low s (x .value) (quantity (low .bound)) _ _ (l .first) (l .second) (low .pair .rises) (l .over) (written-under (low .bound) _ (l .writes)))
+      (pairs-greatest-low s (x .value) (quantity (low .bound)) _ _ (l .first) (l .second) (low .pair .rises) (l .over) (written-under (low .bound) _ (l .writes)))
 
   greatest-told : (q : Quantity) → LowBound q s low → HighBound q s high → Greatest (quantityOf q) s (quantity (high .bound))
   greatest-told Slope l h = greatest-written slope s _ (high .bound) (h .writes) (greatest-slope s line _ _ (gentlest s low high l h))
   greatest-told (Value x) l h =
       value-greatest s (x .value) (quantity (high .bound)) line
-        (pairs-least-high s (x .value) (quantity (high .bound)) _ _ (h .first) (h .second) (high .pair .rises) (h .under) (written-over (high .bound) _ (h .writes)))
+      (pairs-least-high s (x .value) (quantity (high .bound)) _ _ (h .first) (h .second) (high .pair .rises) (h .under) (written-over (high .bound) _ (h .writes)))
 
   -- the denominator is the distance of two arguments
   low-few : (q : Quantity) (p : Rising) (f : Fraction) → Writes f (lowOfPair q p) → f .denominator ≤ 20000
@@ -62,8 +62,9 @@ module _ (s : List Measurement) (line : Consistent s) (low high : Candidate) whe
   high-few (Value x) p f w = omega (arith, ints, w .denominator, p .first .argument .low, p .second .argument .high)
 
   pub bounds-told : (q : Quantity) → LowBound q s low → HighBound q s high → Bounds (quantityOf q) s (low .bound) (high .bound)
-  bounds-told q l h = record
-    { least = least-told q l h
-    ; greatest = greatest-told q l h
-    ; low-denominator = low-few q (low .pair) (low .bound) (l .writes)
-    ; high-denominator = high-few q (high .pair) (high .bound) (h .writes) }
+  bounds-told q l h = record {
+    least = least-told q l h;
+    greatest = greatest-told q l h;
+    low-denominator = low-few q (low .pair) (low .bound) (l .writes);
+    high-denominator = high-few q (high .pair) (high .bound) (h .writes);
+  }

@@ -41,10 +41,11 @@ module _ (x : ℤ) (ps : List Place) where
     module _ (a : Sample) (some : sampled (getD ps n d) ≡ Some a) where
       pub lowest-elsewhere : a .argument .value ≢ x → Lowest x ps (n + 1) best
       lowest-elsewhere other = record
-        { reached = s .reached; row = row-more (Kept x best) ps n (omega arith) d a some (λ e. absurd (other e)) (s .row); long = λ more. long }
+          { reached = s .reached; row = row-more (Kept x best) ps n (omega arith) d a some (λ e. absurd (other e)) (s .row); long = λ more. long }
 
       pub lowest-higher : (v : ℤ) → a .argument .value ≡ x → Higher best (a .set .lower) v → Lowest x ps (n + 1) (Some v)
-      lowest-higher v at h = record
-        { reached = ⊎-elim (λ e. subst (LowerAt x (held ps)) e (s .reached)) (λ e. (measured a, has-here ps n (omega arith) d a some, at, e)) (h .origin)
-        ; row = row-more (Kept x (Some v)) ps n (omega arith) d a some (λ e. h .new) (λ y atY e. h .keeps (y .lower) (s .row y atY e))
-        ; long = λ more. long }
+      lowest-higher v at h = record {
+        reached = ⊎-elim (λ e. subst (LowerAt x (held ps)) e (s .reached)) (λ e. (measured a, has-here ps n (omega arith) d a some, at, e)) (h .origin);
+        row = row-more (Kept x (Some v)) ps n (omega arith) d a some (λ e. h .new) (λ y atY e. h .keeps (y .lower) (s .row y atY e));
+        long = λ more. long;
+      }

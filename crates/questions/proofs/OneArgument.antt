@@ -31,8 +31,13 @@ module _ (s : List Measurement) (some : Some-held s) (line : Consistent s) (one 
     pub no-value : ((m : Measurement) → Has s m → m .argument ≢ x) → NoBounds (λ l. valueAt l x) s refusal.OneArgument
     no-value none =
         let (m, at) = some in
-        inr (inr (some, line, one,
-          (λ b. (no-least-value s (m .argument) (all-at s one m at) x (none m at) b, no-greatest-value s (m .argument) (all-at s one m at) x (none m at) b)), refl))
+        inr (inr (
+          some,
+          line,
+          one,
+          (λ b. (no-least-value s (m .argument) (all-at s one m at) x (none m at) b, no-greatest-value s (m .argument) (all-at s one m at) x (none m at) b)),
+          refl,
+        ))
 
     pub not-here : GreatestLower x s None → (m : Measurement) → Has s m → m .argument ≢ x
     not-here g m at e = g .over m at e
@@ -41,15 +46,16 @@ module _ (s : List Measurement) (some : Some-held s) (line : Consistent s) (one 
     not-here-turned g m at e = g .over (mirrored m) (has-map mirrored s m at) e
 
     pub value-told : (l o : ℤ) (low high : Fraction) → GreatestLower x s (Some l) → GreatestLower x (map mirrored s) (Some o)
-      → low .numerator ≡ l → low .denominator ≡ 1 → high .numerator ≡ negℤ o → high .denominator ≡ 1 → Bounds (λ l. valueAt l x) s low high
+        → low .numerator ≡ l → low .denominator ≡ 1 → high .numerator ≡ negℤ o → high .denominator ≡ 1 → Bounds (λ l. valueAt l x) s low high
     value-told l o low high g h ln ld hn hd =
         let (m, at, mx, ml) = g .reached in let (k, atK, kx, kl) = h .reached in
         let up = mirrored k in let atUp = back Slope s k atK in
-        record
-          { least = least-written (λ l. valueAt l x) s (whole (m .lower)) low (record { numerator = ln ∙ sym ml; denominator = ap pos ld })
-              (value-least s x (whole (m .lower)) line (here-greatest-low s x one m at mx (λ n atN. omega (arith, linear, ml, g .over n atN (one n m atN at ∙ mx)))))
-          ; greatest = greatest-written (λ l. valueAt l x) s (whole (up .upper)) high (record { numerator = hn ∙ ap negℤ (sym kl); denominator = ap pos hd })
+        record {
+          least = least-written (λ l. valueAt l x) s (whole (m .lower)) low (record { numerator = ln ∙ sym ml; denominator = ap pos ld })
+              (value-least s x (whole (m .lower)) line (here-greatest-low s x one m at mx (λ n atN. omega (arith, linear, ml, g .over n atN (one n m atN at ∙ mx)))));
+          greatest = greatest-written (λ l. valueAt l x) s (whole (up .upper)) high (record { numerator = hn ∙ ap negℤ (sym kl); denominator = ap pos hd })
               (value-greatest s x (whole (up .upper)) line (here-least-high s x one up atUp kx (λ n atN.
-                omega (arith, linear, kl, h .over (mirrored n) (has-map mirrored s n atN) (one n m atN at ∙ mx)))))
-          ; low-denominator = omega (arith, ld)
-          ; high-denominator = omega (arith, hd) }
+              omega (arith, linear, kl, h .over (mirrored n) (has-map mirrored s n atN) (one n m atN at ∙ mx)))));
+          low-denominator = omega (arith, ld);
+          high-denominator = omega (arith, hd);
+        }

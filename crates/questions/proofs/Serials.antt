@@ -46,12 +46,13 @@ same-two a b x y o = ⊎-elim
   where
     t : List Measurement
     t = measured a ∷ measured b ∷ []
+
     swapped : Same (measured b ∷ measured a ∷ []) t
     swapped = let (p, (q, _)) = all-has-itself (measured b ∷ measured a ∷ []) in let (r, (s, _)) = all-has-itself t in ((q, (p, tt)), (s, (r, tt)))
 
 pub names-two : (a b x y : Sample) → InOrder a b x y → NamesTwo (measured a) (measured b) (record { first = x .serial; second = y .serial; third = None })
 names-two a b x y o = record
-  { x = measured x; y = measured y; same = same-two a b x y o; first = refl; second = refl; order = o .order; third = refl }
+    { x = measured x; y = measured y; same = same-two a b x y o; first = refl; second = refl; order = o .order; third = refl }
 
 serial : {u v : Sample} → u ≡ v → u .serial ≡ v .serial
 serial e = ap (λ (s : Sample). s .serial) e
@@ -69,11 +70,17 @@ module _ (a b c low high middle last first second : Sample) (p : InOrder a b low
       let f = measured first in let g = measured second in let l = measured low in let h = measured high in let m = measured middle in let z = measured last in
       let x = measured a in let y = measured b in let w = measured c in
       let one = same-two low middle first second r in let two = same-two high c middle last q in let three = same-two a b low high p in
-      record
-        { x = f; y = g; z = z
-        ; same = same-trans (f ∷ g ∷ z ∷ []) (l ∷ m ∷ z ∷ []) (x ∷ y ∷ w ∷ []) (front f g l m z (one .0), front l m f g z (one .1))
-            (same-trans (l ∷ m ∷ z ∷ []) (l ∷ h ∷ w ∷ []) (x ∷ y ∷ w ∷ []) (back l m z h w (two .0), back l h w m z (two .1)) (front l h x y w (three .0), front x y l h w (three .1)))
-        ; first = refl; second = refl; order = (r .order, second-under); third = refl }
+      record {
+        x = f;
+        y = g;
+        z = z;
+        same = same-trans (f ∷ g ∷ z ∷ []) (l ∷ m ∷ z ∷ []) (x ∷ y ∷ w ∷ []) (front f g l m z (one .0), front l m f g z (one .1))
+            (same-trans (l ∷ m ∷ z ∷ []) (l ∷ h ∷ w ∷ []) (x ∷ y ∷ w ∷ []) (back l m z h w (two .0), back l h w m z (two .1)) (front l h x y w (three .0), front x y l h w (three .1)));
+        first = refl;
+        second = refl;
+        order = (r .order, second-under);
+        third = refl;
+      }
 
 below : {i j : ℕ} → i ≤ j → i ≢ j → i < j
 below {i} {j} le ne = omega arith
@@ -83,21 +90,38 @@ module _ (s : List Measurement) where
   named-two a b r atA atB never n =
       let (atX, (atY, _)) = some-trans s (a ∷ b ∷ []) (n .x ∷ n .y ∷ []) (atA, (atB, tt)) (n .same .1) in
       let conflict = conflict-whole (n .x ∷ n .y ∷ []) (a ∷ b ∷ []) (n .same .0) never in
-      subst (NamedBy s (r .first) (r .second)) (sym (n .third)) (record
-        { a = n .x; b = n .y; a-held = atX; b-held = atY; a-serial = n .first; b-serial = n .second; order = n .order
-        ; distinct = λ d. below (n .order) (λ e. two-differ s d (n .x) (n .y) atX atY conflict (n .first ∙ e ∙ sym (n .second)))
-        ; conflict = conflict })
+      subst (NamedBy s (r .first) (r .second)) (sym (n .third)) (record {
+        a = n .x;
+        b = n .y;
+        a-held = atX;
+        b-held = atY;
+        a-serial = n .first;
+        b-serial = n .second;
+        order = n .order;
+        distinct = λ d. below (n .order) (λ e. two-differ s d (n .x) (n .y) atX atY conflict (n .first ∙ e ∙ sym (n .second)));
+        conflict = conflict;
+      })
 
   pub named-three : ((x y : Measurement) → Has s x → Has s y → Consistent (x ∷ y ∷ [])) → (a b c : Measurement) (r : Naming) → All (Has s) (a ∷ b ∷ c ∷ [])
-    → Conflict (a ∷ b ∷ c ∷ []) → NamesThree a b c r → Named s r
+      → Conflict (a ∷ b ∷ c ∷ []) → NamesThree a b c r → Named s r
   named-three no-two a b c r in-s never n =
       let (atX, (atY, (atZ, _))) = some-trans s (a ∷ b ∷ c ∷ []) (n .x ∷ n .y ∷ n .z ∷ []) in-s (n .same .1) in
       let conflict = conflict-whole (n .x ∷ n .y ∷ n .z ∷ []) (a ∷ b ∷ c ∷ []) (n .same .0) never in
-      subst (NamedBy s (r .first) (r .second)) (sym (n .third)) (record
-        { a = n .x; b = n .y; c = n .z; a-held = atX; b-held = atY; c-held = atZ; a-serial = n .first; b-serial = n .second; c-serial = refl
-        ; order = (omega (arith, n .order .0, n .first, n .second), omega (arith, n .order .1, n .second))
-        ; distinct = λ d. let (xy, _, yz) = three-differ s d no-two (n .x) (n .y) (n .z) atX atY atZ conflict in
-            (below (omega (arith, n .order .0, n .first, n .second)) (λ e. xy (n .first ∙ e ∙ sym (n .second))),
-             below (omega (arith, n .order .1, n .second)) (λ e. yz (n .second ∙ e)))
-        ; conflict = conflict
-        ; no-two = no-two })
+      subst (NamedBy s (r .first) (r .second)) (sym (n .third)) (record {
+        a = n .x;
+        b = n .y;
+        c = n .z;
+        a-held = atX;
+        b-held = atY;
+        c-held = atZ;
+        a-serial = n .first;
+        b-serial = n .second;
+        c-serial = refl;
+        order = (omega (arith, n .order .0, n .first, n .second), omega (arith, n .order .1, n .second));
+        distinct = λ d. let (xy, _, yz) = three-differ s d no-two (n .x) (n .y) (n .z) atX atY atZ conflict in (
+          below (omega (arith, n .order .0, n .first, n .second)) (λ e. xy (n .first ∙ e ∙ sym (n .second))),
+          below (omega (arith, n .order .1, n .second)) (λ e. yz (n .second ∙ e)),
+        );
+        conflict = conflict;
+        no-two = no-two;
+      })

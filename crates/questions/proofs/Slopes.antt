@@ -25,14 +25,20 @@ use Rattle.questions.proofs.Serials.{named-three}
 
 module _ (s : List Measurement) (low high : Candidate) (l : LowBound Slope s low) (h : HighBound Slope s high) where
   pub steepest : SteepestLow s (measured (low .pair .first)) (measured (low .pair .second))
-  steepest = record
-    { first = l .first; second = l .second; rises = low .pair .rises
-    ; steepest = λ a b atA atB k. ≼-trans (lowSlope a b k) (quantity (low .bound)) (lowOfPair Slope (low .pair)) (l .over a b atA atB k) (written-under (low .bound) _ (l .writes)) }
+  steepest = record {
+    first = l .first;
+    second = l .second;
+    rises = low .pair .rises;
+    steepest = λ a b atA atB k. ≼-trans (lowSlope a b k) (quantity (low .bound)) (lowOfPair Slope (low .pair)) (l .over a b atA atB k) (written-under (low .bound) _ (l .writes));
+  }
 
   pub gentlest : GentlestHigh s (measured (high .pair .first)) (measured (high .pair .second))
-  gentlest = record
-    { first = h .first; second = h .second; rises = high .pair .rises
-    ; gentlest = λ a b atA atB k. ≼-trans (highOfPair Slope (high .pair)) (quantity (high .bound)) (highSlope a b k) (written-over (high .bound) _ (h .writes)) (h .under a b atA atB k) }
+  gentlest = record {
+    first = h .first;
+    second = h .second;
+    rises = high .pair .rises;
+    gentlest = λ a b atA atB k. ≼-trans (highOfPair Slope (high .pair)) (quantity (high .bound)) (highSlope a b k) (written-over (high .bound) _ (h .writes)) (h .under a b atA atB k);
+  }
 
   -- the test of the two bounds
   abbrev test : Bool
@@ -44,19 +50,20 @@ module _ (s : List Measurement) (low high : Candidate) (l : LowBound Slope s low
   pub over : false ≡ test → highOfPair Slope (high .pair) ≺ lowOfPair Slope (low .pair)
   over e =
       ≼-≺-trans (highOfPair Slope (high .pair)) (quantity (high .bound)) (lowOfPair Slope (low .pair)) (written-over (high .bound) _ (h .writes))
-        (≺-≼-trans (quantity (high .bound)) (quantity (low .bound)) (lowOfPair Slope (low .pair)) (above e) (written-under (low .bound) _ (l .writes)))
+      (≺-≼-trans (quantity (high .bound)) (quantity (low .bound)) (lowOfPair Slope (low .pair)) (above e) (written-under (low .bound) _ (l .writes)))
 
   module _ (meet : PairsMeet s) where
     pub slopes-line : true ≡ test → Consistent s
     slopes-line e =
         consistent-steep s meet _ _ _ _ steepest gentlest
-          (≼-trans (lowOfPair Slope (low .pair)) (quantity (low .bound)) (highOfPair Slope (high .pair)) (written-over (low .bound) _ (l .writes))
-            (≼-trans (quantity (low .bound)) (quantity (high .bound)) (highOfPair Slope (high .pair)) (test-le (sym e)) (written-under (high .bound) _ (h .writes))))
+        (≼-trans (lowOfPair Slope (low .pair)) (quantity (low .bound)) (highOfPair Slope (high .pair)) (written-over (low .bound) _ (l .writes))
+        (≼-trans (quantity (low .bound)) (quantity (high .bound)) (highOfPair Slope (high .pair)) (test-le (sym e)) (written-under (high .bound) _ (h .writes))))
 
     pub slopes-named : (r : Naming) → false ≡ test → Broken (four (low .pair) (high .pair)) r → Conflict s × Named s r
     slopes-named r e b =
         let t = four (low .pair) (high .pair) in
         let in-s : All (Has s) t = (l .first, (l .second, (h .first, (h .second, tt)))) in
-        let three = b .a ∷ b .b ∷ b .c ∷ [] in
-        (steep-conflict s _ _ _ _ steepest gentlest (over e),
-         named-three s (pairs-consistent s meet) (b .a) (b .b) (b .c) r (all-weaker (Has t) (Has s) (λ m at. all-has (Has s) t m in-s at) three (b .among)) (b .conflict) (b .names))
+        let three = b .a ∷ b .b ∷ b .c ∷ [] in (
+          steep-conflict s _ _ _ _ steepest gentlest (over e),
+          named-three s (pairs-consistent s meet) (b .a) (b .b) (b .c) r (all-weaker (Has t) (Has s) (λ m at. all-has (Has s) t m in-s at) three (b .among)) (b .conflict) (b .names),
+        )

@@ -14,7 +14,7 @@ use places::sample::Sample;
 use refusal::conflict::Conflict;
 
 // Two measurements at one argument whose sets have no value in common.
-pub fn apart(places: &Places) -> Option<Conflict>
+pub(crate) fn apart(places: &Places) -> Option<Conflict>
     ensures { λ r. ⌜ BySome r (PairsMeet (held (now (places .entry) .all))) (λ c. Conflicting (held (now (places .entry) .all)) × Named (held (now (places .entry) .all)) c) ⌝ }
 {
     for a in &places.all {

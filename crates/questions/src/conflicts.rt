@@ -10,7 +10,7 @@ use places::place::Places;
 use refusal::conflict::Conflict;
 
 // Two measurements that no line meets, or three if no two are; none where one line meets all.
-pub fn any_conflict(places: &Places) -> Option<Conflict>
+pub(crate) fn any_conflict(places: &Places) -> Option<Conflict>
     ensures { λ r. ⌜ Found (held (now (places .entry) .all)) r ⌝ }
 {
     if let Some(pair) = apart(places) {

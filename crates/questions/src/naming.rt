@@ -14,19 +14,27 @@ fn in_order(a: Sample, b: Sample) -> (Sample, Sample)
 }
 
 // Names two measurements.
-pub fn two(a: Sample, b: Sample) -> Conflict
+pub(crate) fn two(a: Sample, b: Sample) -> Conflict
     ensures { λ r. ⌜ NamesTwo (measured a) (measured b) r ⌝ }
 {
     let (first, second) = in_order(a, b);
-    Conflict { first: first.serial, second: second.serial, third: None }
+    Conflict {
+        first: first.serial,
+        second: second.serial,
+        third: None,
+    }
 }
 
 // Names three measurements.
-pub fn three(a: Sample, b: Sample, c: Sample) -> Conflict
+pub(crate) fn three(a: Sample, b: Sample, c: Sample) -> Conflict
     ensures { λ r. ⌜ NamesThree (measured a) (measured b) (measured c) r ⌝ }
 {
     let (low, high) = in_order(a, b);
     let (middle, last) = in_order(high, c);
     let (first, second) = in_order(low, middle);
-    Conflict { first: first.serial, second: second.serial, third: Some(last.serial) }
+    Conflict {
+        first: first.serial,
+        second: second.serial,
+        third: Some(last.serial),
+    }
 }

@@ -17,12 +17,18 @@ use refusal::conflict::Conflict;
 
 // Where the low slope of one pair is above the high slope of another, three of the four conflict.
 // Of the two triples that can, the first is tested by its chord; if it keeps it, the second is the one.
-pub fn broken(steep: Rising, gentle: Rising) -> Conflict
+pub(crate) fn broken(steep: Rising, gentle: Rising) -> Conflict
     requires { ⌜ highOfPair Slope gentle ≺ lowOfPair Slope steep ⌝ }
     ensures { λ r. ⌜ Broken (four steep gentle) r ⌝ }
 {
-    let Rising { first: j, second: i } = steep;
-    let Rising { first: k, second: m } = gentle;
+    let Rising {
+        first: j,
+        second: i,
+    } = steep;
+    let Rising {
+        first: k,
+        second: m,
+    } = gentle;
     if m.argument.value <= i.argument.value {
         if chord_above(k, m, i) {
             return three(k, m, i);
@@ -30,7 +36,11 @@ pub fn broken(steep: Rising, gentle: Rising) -> Conflict
     } else if chord_above(j.mirrored(), i.mirrored(), m.mirrored()) {
         return three(j, i, m);
     }
-    if j.argument.value <= k.argument.value { three(j, k, m) } else { three(k, j, i) }
+    if j.argument.value <= k.argument.value {
+        three(j, k, m)
+    } else {
+        three(k, j, i)
+    }
 }
 
 // Whether the chord of the lower ends of the first and the last passes above the middle one.

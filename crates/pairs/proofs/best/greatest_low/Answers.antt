@@ -30,9 +30,9 @@ pub loop-b-again : need.loop-b-again
 loop-b-again c =
     let ps = c .args .places .now .all in let a = c .in-Some .first in
     step (c .args .quantity) ps (c .loop-a .a-index) a (c .loop-b .b-index) (c .loop-b .best) (c .loop-b .inv) (c .loop-b-test .taken) _
-      (c .with-pair-best .result) (c .in-Some-sample .second) (sym (c .in-Some-sample .ensures tt))
-      (has-here ps (c .loop-a .a-index) (omega (arith, c .loop-a-test .taken, c .loop-b .inv .long)) _ a (sym (c .in-Some .ensures tt)))
-      (c .with-pair-best .ensures)
+    (c .with-pair-best .result) (c .in-Some-sample .second) (sym (c .in-Some-sample .ensures tt))
+    (has-here ps (c .loop-a .a-index) (omega (arith, c .loop-a-test .taken, c .loop-b .inv .long)) _ a (sym (c .in-Some .ensures tt)))
+    (c .with-pair-best .ensures)
 
 pub loop-a-again : need.loop-a-again
 loop-a-again c =

@@ -19,7 +19,7 @@ returns-in-Some-best c =
     let made = c .in-Some .ensures tt in
     let r = c .greater .result in
     subst (λ best. Looked q best a b (Some r)) (sym (c .in-Some-best .is))
-      (picked q a b new (made .0) (made .1) (c .low .ensures) (c .in-Some-best .old) r _ (c .greater .ensures .value) (c .greater .ensures .first) (c .greater .ensures .second))
+    (picked q a b new (made .0) (made .1) (c .low .ensures) (c .in-Some-best .old) r _ (c .greater .ensures .value) (c .greater .ensures .first) (c .greater .ensures .second))
 
 pub returns-in-rest : need.returns-in-rest
 returns-in-rest c = passed (c .args .quantity) (c .args .first) (c .args .second) (c .args .best) (c .in-rest .ensures tt)

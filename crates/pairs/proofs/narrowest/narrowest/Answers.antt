@@ -11,11 +11,12 @@ returns-in-rest c = no-low (c .args .quantity) (held (c .args .places .now .all)
 pub returns-in-rest-greatest-low : need.returns-in-rest-greatest-low
 returns-in-rest-greatest-low c =
     no-mirrored-low (c .args .quantity) (held (c .args .places .now .all))
-      (subst (λ s. GreatestLow (c .args .quantity) s None) (c .mirrored-turned .ensures) (c .in-rest-greatest-low .ensures tt))
+    (subst (λ s. GreatestLow (c .args .quantity) s None) (c .mirrored-turned .ensures) (c .in-rest-greatest-low .ensures tt))
 
 pub returns : need.returns
 returns c =
-    let q = c .args .quantity in let s = held (c .args .places .now .all) in let o = c .in-Some-greatest-low .opposite in
-    (low-bound q s (c .in-Some .least) (c .in-Some .ensures tt),
-     high-bound q s o (c .mirrored .result) (c .mirrored .ensures)
-       (subst (λ t. GreatestLow q t (Some o)) (c .mirrored-turned .ensures) (c .in-Some-greatest-low .ensures tt)))
+    let q = c .args .quantity in let s = held (c .args .places .now .all) in let o = c .in-Some-greatest-low .opposite in (
+      low-bound q s (c .in-Some .least) (c .in-Some .ensures tt),
+      high-bound q s o (c .mirrored .result) (c .mirrored .ensures)
+          (subst (λ t. GreatestLow q t (Some o)) (c .mirrored-turned .ensures) (c .in-Some-greatest-low .ensures tt)),
+    )

@@ -41,23 +41,27 @@ loop-b-again-in-rest-sample c =
 
 pub loop-b-again : need.loop-b-again
 loop-b-again c =
-    let ps = c .args .places .now .all in let (row, long) = c .loop-b .inv in
-    (row-more (Meet (measured (c .in-Some .first))) ps (c .loop-b .b-index) (omega (arith, c .loop-b-test .taken)) _
-       (c .in-Some-sample .second) (sym (c .in-Some-sample .ensures tt)) (c .if-lies-above .ensures tt) row, long)
+    let ps = c .args .places .now .all in let (row, long) = c .loop-b .inv in (
+      row-more (Meet (measured (c .in-Some .first))) ps (c .loop-b .b-index) (omega (arith, c .loop-b-test .taken)) _
+          (c .in-Some-sample .second) (sym (c .in-Some-sample .ensures tt)) (c .if-lies-above .ensures tt) row,
+      long,
+    )
 
 pub loop-a-again : need.loop-a-again
 loop-a-again c =
-    let ps = c .args .places .now .all in let a = c .in-Some .first in let (row, long) = c .loop-b .inv in
-    (row-more (Meets-all ps) ps (c .loop-a .a-index) (omega (arith, c .loop-a-test .taken)) _ a (sym (c .in-Some .ensures tt))
-       (row-all (Meet (measured a)) ps (c .loop-b .b-index) (omega (arith, c .loop-b-test .left)) row) (c .loop-a .inv .0), λ more. long)
+    let ps = c .args .places .now .all in let a = c .in-Some .first in let (row, long) = c .loop-b .inv in (
+      row-more (Meets-all ps) ps (c .loop-a .a-index) (omega (arith, c .loop-a-test .taken)) _ a (sym (c .in-Some .ensures tt))
+          (row-all (Meet (measured a)) ps (c .loop-b .b-index) (omega (arith, c .loop-b-test .left)) row) (c .loop-a .inv .0),
+      λ more. long,
+    )
 
 pub returns-then-lies-above : need.returns-then-lies-above
 returns-then-lies-above c =
     let ps = c .args .places .now .all in let a = c .in-Some .first in let b = c .in-Some-sample .second in let long = c .loop-b .inv .1 in
     above-conflict (held ps) (measured a) (measured b) (c .two .result)
-      (has-here ps (c .loop-a .a-index) (omega (arith, c .loop-a-test .taken)) _ a (sym (c .in-Some .ensures tt)))
-      (has-here ps (c .loop-b .b-index) (omega (arith, c .loop-b-test .taken)) _ b (sym (c .in-Some-sample .ensures tt)))
-      (c .if-lies-above .ensures tt) (c .two .ensures)
+    (has-here ps (c .loop-a .a-index) (omega (arith, c .loop-a-test .taken)) _ a (sym (c .in-Some .ensures tt)))
+    (has-here ps (c .loop-b .b-index) (omega (arith, c .loop-b-test .taken)) _ b (sym (c .in-Some-sample .ensures tt)))
+    (c .if-lies-above .ensures tt) (c .two .ensures)
 
 pub returns : need.returns
 returns c =

@@ -23,4 +23,4 @@ pub returns : need.returns
 returns c =
     let e = c .in-Some-narrowest .slopes in let (l, h) = c .in-Some-narrowest .ensures tt in
     slopes-named (held (c .args .places .now .all)) (e .least) (e .greatest) l h (c .in-rest .ensures tt) (c .broken .result)
-      (c .if-at-most .ensures tt) (c .broken .ensures)
+    (c .if-at-most .ensures tt) (c .broken .ensures)

@@ -43,11 +43,12 @@ loop-place-again c =
     let long : length ps ≡ 64 = search needs in
     let Next : Option ℤ → Type 0 = Lowest (x .value) ps (c .loop-place .place-index + 1) in
     elim (c .if-sample-argument .came) [
-      then-sample-argument w ↦ subst Next (sym (w .best-is))
-        (lowest-higher (x .value) ps (c .loop-place .place-index) (c .loop-place .best) (c .loop-place .inv) long (c .loop-place-test .taken) _ a (sym (c .in-Some .ensures tt)) _ (same-argument (a .argument) x (w .if-sample-argument .taken)) 
+      | then-sample-argument w ↦ subst Next (sym (w .best-is))
+          (lowest-higher (x .value) ps (c .loop-place .place-index) (c .loop-place .best) (c .loop-place .inv) long (c .loop-place-test .taken) _ a (sym (c .in-Some .ensures tt)) _ (same-argument (a .argument) x (w .if-sample-argument .taken))
           (let fits : SFits w32 (w .higher .result) = search needs in as-told (c .loop-place .best) a (w .higher .result) fits (w .higher .ensures)))
-    | else-sample-argument w ↦ subst Next (sym (w .best-is))
-        (lowest-elsewhere (x .value) ps (c .loop-place .place-index) (c .loop-place .best) (c .loop-place .inv) long (c .loop-place-test .taken) _ a (sym (c .in-Some .ensures tt)) (λ e. w .if-sample-argument .left (ap (ofZ w32) e))) ]
+      | else-sample-argument w ↦ subst Next (sym (w .best-is))
+          (lowest-elsewhere (x .value) ps (c .loop-place .place-index) (c .loop-place .best) (c .loop-place .inv) long (c .loop-place-test .taken) _ a (sym (c .in-Some .ensures tt)) (λ e. w .if-sample-argument .left (ap (ofZ w32) e)))
+    ]
 
 pub returns : need.returns
 returns c = lowest-all (c .args .argument .value) (c .args .places .now .all) (c .loop-place .place-index) (c .loop-place .best) (c .loop-place-test .left) (c .loop-place .inv)

@@ -35,17 +35,19 @@ pub returns-in-Slope : need.returns-in-Slope
 returns-in-Slope c =
     let p = c .args .pair in let r = c .over-span .result in
     let s = p .first .set in let t = p .second .set in
-    let w : Writes r (lowOfPair Slope p) = record
-          { numerator = c .over-span .ensures .numerator ∙ omega (arith, ints, s .low, s .ordered, s .high, t .low, t .ordered, t .high)
-          ; denominator = c .over-span .ensures .span } in
+    let w : Writes r (lowOfPair Slope p) = record {
+      numerator = c .over-span .ensures .numerator ∙ omega (arith, ints, s .low, s .ordered, s .high, t .low, t .ordered, t .high);
+      denominator = c .over-span .ensures .span;
+    } in
     subst (λ q. Writes r (lowOfPair q p)) (sym (c .in-Slope .is)) w
 
 pub returns-in-Value : need.returns-in-Value
 returns-in-Value c =
     let p = c .args .pair in let r = c .over-span-in-Value .result in let x = c .in-Value .argument in
     let y = c .least-from-first .ensures in let z = c .least-from-second .ensures in
-    let w : Writes r (lowOfPair (Value x) p) = record
-          { numerator = c .over-span-in-Value .ensures .numerator ∙ sum-cast _ _ (product-small (p .first) (p .second .argument) x _ y) (product-small (p .second) x (p .first .argument) _ z)
-              ∙ (λ i. product-is (p .first) (p .second .argument) x _ y i +ℤ product-is (p .second) x (p .first .argument) _ z i)
-          ; denominator = c .over-span-in-Value .ensures .span } in
+    let w : Writes r (lowOfPair (Value x) p) = record {
+      numerator = c .over-span-in-Value .ensures .numerator ∙ sum-cast _ _ (product-small (p .first) (p .second .argument) x _ y) (product-small (p .second) x (p .first .argument) _ z)
+          ∙ (λ i. product-is (p .first) (p .second .argument) x _ y i +ℤ product-is (p .second) x (p .first .argument) _ z i);
+      denominator = c .over-span-in-Value .ensures .span;
+    } in
     subst (λ q. Writes r (lowOfPair q p)) (sym (c .in-Value .is)) w
