@@ -30,19 +30,17 @@ impl<'a> Line<'a> {
     pub fn slope(least: Fraction, greatest: Fraction) -> Line<'a>
         ensures { λ r. ⌜ r ≡ Slope (roundedDown least) (roundedUp greatest) ⌝ }
     {
-        Line::Slope {
-            least: thousandths_down(least),
-            greatest: thousandths_up(greatest),
-        }
+        let least = thousandths_down(least);
+        let greatest = thousandths_up(greatest);
+        Line::Slope { least, greatest }
     }
 
     // The line of the least and the greatest value, rounded outwards.
-    pub fn value(lowest: Fraction, highest: Fraction) -> Line<'a>
-        ensures { λ r. ⌜ r ≡ Value (roundedDown lowest) (roundedUp highest) ⌝ }
+    pub fn value(least: Fraction, greatest: Fraction) -> Line<'a>
+        ensures { λ r. ⌜ r ≡ Value (roundedDown least) (roundedUp greatest) ⌝ }
     {
-        Line::Value {
-            least: thousandths_down(lowest),
-            greatest: thousandths_up(highest),
-        }
+        let least = thousandths_down(least);
+        let greatest = thousandths_up(greatest);
+        Line::Value { least, greatest }
     }
 }

@@ -15,6 +15,12 @@ use crate::put::put_byte;
 use crate::put::put_words;
 use refusal::refusal::Refusal;
 
+// The bytes that a buffer has at least.
+const ROOM: usize = 80;
+
+// The bytes that a reason has at most.
+const LONGEST: usize = 15;
+
 // All of a line but its last byte.
 fn put_body(buffer: &mut [u8], line: &Line) -> usize
     requires { ⌜ 80 ≤ length (now buffer) ⌝ ∗ ⌜ length (reasonOf (now line)) ≤ 15 ⌝ }
@@ -95,11 +101,11 @@ pub fn print(line: &Line, buffer: &mut [u8]) -> Result<usize, Refusal>
     ensures room { λ r. ⌜ made r (λ n. n ≤ 80) ⌝ }
     ensures numbers { λ _. ⌜ ReadsBack ⌝ }
 {
-    if buffer.len() < 80 {
+    if buffer.len() < ROOM {
         return Err(Refusal::LineNotWritten);
     }
     if let Line::Aborted { reason, .. } = line {
-        if reason.len() > 15 {
+        if reason.len() > LONGEST {
             return Err(Refusal::LineNotWritten);
         }
     }

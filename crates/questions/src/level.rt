@@ -12,7 +12,10 @@ use places::place::Places;
 use refusal::refusal::Refusal;
 
 // The bounds where all that is held has one argument: of the value there, the greatest lower and the least upper end; of nothing else.
-pub(crate) fn at_one_argument(quantity: Quantity, places: &Places) -> Result<(Fraction, Fraction), Refusal>
+pub(crate) fn at_one_argument(
+    quantity: Quantity,
+    places: &Places,
+) -> Result<(Fraction, Fraction), Refusal>
     requires held { ⌜ Some-held (held (now places .all)) ⌝ }
     requires line { ⌜ Consistent (held (now places .all)) ⌝ }
     requires one { ⌜ OneArgument (held (now places .all)) ⌝ }

@@ -41,12 +41,8 @@ fn with_reason<'a>(
     if rest.len() < length {
         return Err(Refusal::FrameCutShort { position });
     }
-    Ok((
-        Frame::Abort {
-            reason: &rest[0..length],
-        },
-        &rest[length..],
-    ))
+    let reason = &rest[0..length];
+    Ok((Frame::Abort { reason }, &rest[length..]))
 }
 
 // A load, or the question for a value: a first byte, and an argument.

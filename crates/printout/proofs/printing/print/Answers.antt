@@ -14,8 +14,8 @@ use Rattle.printout.proofs.Decimals.{reads-back}
 use Rattle.printout.proofs.Over.{next}
 use Rattle.printout.proofs.printing.print.Needs as need
 
-pub returns-then-buffer-lt80 : need.returns-then-buffer-lt80
-returns-then-buffer-lt80 c =
+pub returns-then-buffer-lt-ROOM : need.returns-then-buffer-lt-ROOM
+returns-then-buffer-lt-ROOM c =
     let line = c .args .line .now in
     let xs = c .args .buffer .now in
     let e : true ≡ refused line xs = grind (arith, tells) in
@@ -26,8 +26,8 @@ returns-then-buffer-lt80 c =
       numbers = reads-back;
     }
 
-pub returns-then-reason-gt15 : need.returns-then-reason-gt15
-returns-then-reason-gt15 c =
+pub returns-then-reason-gt-LONGEST : need.returns-then-reason-gt-LONGEST
+returns-then-reason-gt-LONGEST c =
     let line = c .args .line .now in
     let xs = c .args .buffer .now in
     let many : 15 < length (reasonOf line) = search needs in
@@ -40,7 +40,7 @@ returns-then-reason-gt15 c =
     }
 
 pub put-byte-requires : need.put-byte-requires
-put-byte-requires c κs = omega (arith, c .put-body-end .ensures .room, c .put-body-end .kept .buffer, c .if-buffer-lt80 .left)
+put-byte-requires c κs = omega (arith, c .put-body-end .ensures .room, c .put-body-end .kept .buffer, c .if-buffer-lt-ROOM .left)
 
 pub returns : need.returns
 returns c =
