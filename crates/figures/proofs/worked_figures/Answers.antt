@@ -7,7 +7,8 @@ use Rattle.stage.specs.Meaning.{answer, single}
 use Rattle.stage.specs.Chains.{chained}
 use Rattle.step.specs.Ends as step
 use Rattle.bounded.specs.Ends as bounded
-use Rattle.figures.proofs.stage_figures.Needs as need
+use Rattle.figures.proofs.Lines.{line-figures, tally-figures}
+use Rattle.figures.proofs.worked_figures.Needs as need
 
 -- what a chain of a step on a bounded stage answers to 9,999,999
 told : ℕ → ℕ → ℕ → Result (ℤ × ℤ) Refusal
@@ -24,4 +25,6 @@ returns c =
       beyond = c .ask-4 .ensures;
       relative = c .ask-5 .ensures;
       chain = c .ask-6 .ensures ∙ (λ i. told (made .step i) (made .absolute i) (made .relative i));
+      lines = line-figures;
+      tallies = tally-figures;
     }
