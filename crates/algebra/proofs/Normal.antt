@@ -124,7 +124,7 @@ module _ (zs : List ℤ) where
   add-term-is c vs (term d ws s) = here (alike vs ws) (precedes vs ws) (alike-is vs ws) (add-term-is c vs s)
     where
       here : (a b : Bool) → (T a → vs ≡ ws) → total zs (add-term c vs s) ≡ c *ℤ factors zs vs +ℤ total zs s
-        → total zs (cond a (term (c +ℤ d) ws s) (cond b (term c vs (term d ws s)) (term d ws (add-term c vs s)))) ≡ c *ℤ factors zs vs +ℤ (d *ℤ factors zs ws +ℤ total zs s)
+          → total zs (cond a (term (c +ℤ d) ws s) (cond b (term c vs (term d ws s)) (term d ws (add-term c vs s)))) ≡ c *ℤ factors zs vs +ℤ (d *ℤ factors zs ws +ℤ total zs s)
       here true b e h = omega (arith, linear, distrib-right c d (factors zs ws), ap (λ us. c *ℤ factors zs us) (e tt))
       here false true e h = refl
       here false false e h = omega (arith, linear)
@@ -152,8 +152,16 @@ module _ (zs : List ℤ) where
   normal-is (con z) = omega (arith, linear, one-right z)
   normal-is (e ⊕ f) = omega (arith, linear, add-is (normal e) (normal f), normal-is e, normal-is f)
   normal-is (e ⊖ f) =
-      omega (arith, linear, add-is (normal e) (scale (negsuc 0) [] (normal f)), scale-is (negsuc 0) [] (normal f),
-        neg-left (pos 1) (total zs (normal f)), one-left (total zs (normal f)), normal-is e, normal-is f)
+      omega (
+        arith,
+        linear,
+        add-is (normal e) (scale (negsuc 0) [] (normal f)),
+        scale-is (negsuc 0) [] (normal f),
+        neg-left (pos 1) (total zs (normal f)),
+        one-left (total zs (normal f)),
+        normal-is e,
+        normal-is f,
+      )
   normal-is (e ⊗ f) = multiply-is (normal e) (normal f) ∙ (λ i. normal-is e i *ℤ normal-is f i)
 
   vanishes-is : (s : Sum) → T (vanishes s) → total zs s ≡ pos 0
@@ -177,12 +185,23 @@ module _ (zs : List ℤ) where
   gain-is : (fs : List (Expr × Expr × Expr)) → Facts fs → pos 0 ≤ℤ value zs (gain fs)
   gain-is [] h = omega (arith, linear)
   gain-is (f ∷ fs) h =
-      omega (arith, linear, times-grows {a = pos 0} {b = value zs (f .2) -ℤ value zs (f .1)} (value zs (f .0)) (h .0) (omega (arith, linear)),
-        zero-*ℤ (value zs (f .0)), gain-is fs (h .2))
+      omega (
+        arith,
+        linear,
+        times-grows {a = pos 0} {b = value zs (f .2) -ℤ value zs (f .1)} (value zs (f .0)) (h .0) (omega (arith, linear)),
+        zero-*ℤ (value zs (f .0)),
+        gain-is fs (h .2),
+      )
 
   -- an inequality: the facts add up to it times a positive weight
   pub adds-up : (weight e f : Expr) (fs : List (Expr × Expr × Expr)) → T (vanishes (normal ((f ⊖ e) ⊗ weight ⊖ gain fs)))
-    → pos 0 <ℤ value zs weight → Facts fs → value zs e ≤ℤ value zs f
+      → pos 0 <ℤ value zs weight → Facts fs → value zs e ≤ℤ value zs f
   adds-up weight e f fs t hw h =
-      cancel (value zs weight) hw (omega (arith, linear, identity ((f ⊖ e) ⊗ weight) (gain fs) t, gain-is fs h,
-        distrib-right (value zs f) (negℤ (value zs e)) (value zs weight), neg-left (value zs e) (value zs weight)))
+      cancel (value zs weight) hw (omega (
+        arith,
+        linear,
+        identity ((f ⊖ e) ⊗ weight) (gain fs) t,
+        gain-is fs h,
+        distrib-right (value zs f) (negℤ (value zs e)) (value zs weight),
+        neg-left (value zs e) (value zs weight),
+      ))

@@ -21,8 +21,16 @@ distrib-right a b c = *ℤ-comm (a +ℤ b) c ∙ distrib-left c a b ∙ (λ i. *
 pub neg-left : (a b : ℤ) → negℤ a *ℤ b ≡ negℤ (a *ℤ b)
 neg-left a b =
     let times : ℕ → ℕ → ℕ = λ k n. n * k in
-    same-in _ _ (omega (arith, product-is (negℤ a) b, product-is a b, neg-is (a *ℤ b),
-      ap (times (up b)) (neg-is a .0), ap (times (down b)) (neg-is a .0), ap (times (up b)) (neg-is a .1), ap (times (down b)) (neg-is a .1)))
+    same-in _ _ (omega (
+      arith,
+      product-is (negℤ a) b,
+      product-is a b,
+      neg-is (a *ℤ b),
+      ap (times (up b)) (neg-is a .0),
+      ap (times (down b)) (neg-is a .0),
+      ap (times (up b)) (neg-is a .1),
+      ap (times (down b)) (neg-is a .1),
+    ))
 
 pub neg-right : (a b : ℤ) → a *ℤ negℤ b ≡ negℤ (a *ℤ b)
 neg-right a b = *ℤ-comm a (negℤ b) ∙ neg-left b a ∙ ap negℤ (*ℤ-comm b a)
@@ -30,9 +38,19 @@ neg-right a b = *ℤ-comm a (negℤ b) ∙ neg-left b a ∙ ap negℤ (*ℤ-comm
 pub assoc : (a b c : ℤ) → (a *ℤ b) *ℤ c ≡ a *ℤ (b *ℤ c)
 assoc a b c =
     let p = product-is a b in let q = product-is b c in
-    omega (arith, linear, product-is,
-      ap (λ (n : ℕ). n * up c) (p .0), ap (λ (n : ℕ). n * down c) (p .0), ap (λ (n : ℕ). n * up c) (p .1), ap (λ (n : ℕ). n * down c) (p .1),
-      ap (λ (n : ℕ). up a * n) (q .0), ap (λ (n : ℕ). down a * n) (q .0), ap (λ (n : ℕ). up a * n) (q .1), ap (λ (n : ℕ). down a * n) (q .1))
+    omega (
+      arith,
+      linear,
+      product-is,
+      ap (λ (n : ℕ). n * up c) (p .0),
+      ap (λ (n : ℕ). n * down c) (p .0),
+      ap (λ (n : ℕ). n * up c) (p .1),
+      ap (λ (n : ℕ). n * down c) (p .1),
+      ap (λ (n : ℕ). up a * n) (q .0),
+      ap (λ (n : ℕ). down a * n) (q .0),
+      ap (λ (n : ℕ). up a * n) (q .1),
+      ap (λ (n : ℕ). down a * n) (q .1),
+    )
 
 pub swap-left : (a b c : ℤ) → a *ℤ (b *ℤ c) ≡ b *ℤ (a *ℤ c)
 swap-left a b c = sym (assoc a b c) ∙ ap (λ x. x *ℤ c) (*ℤ-comm a b) ∙ assoc b a c

@@ -70,10 +70,10 @@ rises : (a b : ℤ) → a ≤ℤ b → (low high last : Row) (ns : List Row) →
 rises a b ab low high last [] lh hl c = lh
 rises a b ab low high last (n ∷ ns) lh hl c =
     here (leZ (n .first) a) (leZ (n .first) b) (λ e. le-test {a = n .first} {b = b} (omega (arith, linear, test-le {a = n .first} {b = a} e)))
-      (λ x y xy yn. rises a b ab x y n ns xy yn (c .1))
+    (λ x y xy yn. rises a b ab x y n ns xy yn (c .1))
   where
     here : (x y : Bool) → (x ≡ true → y ≡ true) → ((x y : Row) → Under x y → Under y n → Under (folded (step a) x ns) (folded (step b) y ns))
-      → Under (folded (step a) (cond x n low) ns) (folded (step b) (cond y n high) ns)
+        → Under (folded (step a) (cond x n low) ns) (folded (step b) (cond y n high) ns)
     here true true t rest = rest n n (under-refl n) (under-refl n)
     here true false t rest = let e : false ≡ true = t refl in let z : _≡_ {A = ℕ} 0 1 = cc in absurd (omega arith)
     here false true t rest = rest low n (under-trans low high n lh (under-trans high last n hl (c .0))) (under-refl n)
@@ -107,11 +107,11 @@ joined a b c d h k = grind (arith, ints)
 
 pub banded-sound : (rows : List Row) (last : ℤ) → Faultless rows last → Sound (banded rows last)
 banded-sound rows last h = record {
-    ordered = λ r t. in-order (rowAt rows r) (found-fine rows last r h) .1;
-    within = λ r t. let f = in-order (rowAt rows r) (found-fine rows last r h) in (f .0, f .2);
-    between = λ a b c ab bc ta tc.
+  ordered = λ r t. in-order (rowAt rows r) (found-fine rows last r h) .1;
+  within = λ r t. let f = in-order (rowAt rows r) (found-fine rows last r h) in (f .0, f .2);
+  between = λ a b c ab bc ta tc.
       joined (row rows 0 .first) b b last
-        (omega (arith, linear, both (row rows 0 .first) a a last ta .0, ab))
-        (omega (arith, linear, both (row rows 0 .first) c c last tc .1, bc));
-    rising = λ a b ab ta tb. rows-rise rows last a b h ab (both (row rows 0 .first) a a last ta .0);
-  }
+      (omega (arith, linear, both (row rows 0 .first) a a last ta .0, ab))
+      (omega (arith, linear, both (row rows 0 .first) c c last tc .1, bc));
+  rising = λ a b ab ta tb. rows-rise rows last a b h ab (both (row rows 0 .first) a a last ta .0);
+}

@@ -53,9 +53,10 @@ module _ (rows : List Row) (last : ℤ) where
   pub first-row : (i : ℕ) → countFault rows ≡ false → i < length rows → ((k : ℕ) → k < i → rowFault rows k ≡ false) → rowFault rows i ≡ true → FirstFault rows last (Some (i + 1))
   first-row i c lt fine bad =
       let few : i < 16 = omega (arith, count-few (length rows) c) in
-      let same : i + 1 - 1 ≡ i = omega arith in
-      (row-position i (length rows) (countFault rows) (lastFault rows last) (rowFault rows (i + 1 - 1)) few lt ∙ ap (rowFault rows) same ∙ bad,
-       λ q below. before q i (length rows) (countFault rows) (lastFault rows last) (rowFault rows (q - 1)) few below c (λ from under. fine (q - 1) under))
+      let same : i + 1 - 1 ≡ i = omega arith in (
+        row-position i (length rows) (countFault rows) (lastFault rows last) (rowFault rows (i + 1 - 1)) few lt ∙ ap (rowFault rows) same ∙ bad,
+        λ q below. before q i (length rows) (countFault rows) (lastFault rows last) (rowFault rows (q - 1)) few below c (λ from under. fine (q - 1) under),
+      )
 
   pub first-last : countFault rows ≡ false → ((k : ℕ) → k < length rows → rowFault rows k ≡ false) → lastFault rows last ≡ true → FirstFault rows last (Some 17)
   first-last c fine bad = (bad, λ q lt. early q (length rows) (countFault rows) (lastFault rows last) (rowFault rows (q - 1)) lt c (λ from under. fine (q - 1) under))

@@ -15,10 +15,10 @@ rowAt rows r = folded (λ found next. cond (leZ (next .first) r) next found) zer
 -- the readings from the first row's first to the last one are taken, each with the ends of its row
 abbrev pub banded : List Row → ℤ → Meaning
 banded rows last = record {
-    count = 1;
-    taken = λ r. leZ (row rows 0 .first) r && leZ r last;
-    lower = λ r. rowAt rows r .lower;
-    upper = λ r. rowAt rows r .upper;
-    place = λ r. 1;
-    value = λ r. r;
-  }
+  count = 1;
+  taken = λ r. leZ (row rows 0 .first) r && leZ r last;
+  lower = λ r. rowAt rows r .lower;
+  upper = λ r. rowAt rows r .upper;
+  place = λ r. 1;
+  value = λ r. r;
+}

@@ -29,7 +29,10 @@ pub impl Stage for Band as BandStage {
 
     fn ask(&self, reading: i32) -> Result<(i32, i32), Refusal> {
         if reading < self.rows[0].first || reading > self.last {
-            return Err(Refusal::ReadingNotTaken { place: 1, value: reading });
+            return Err(Refusal::ReadingNotTaken {
+                place: 1,
+                value: reading,
+            });
         }
         let row = row_at(&self.rows[0..self.count], reading);
         Ok((row.lower, row.upper))

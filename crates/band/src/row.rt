@@ -7,4 +7,8 @@ pub struct Row {
 }
 
 // A row of zeros.
-pub const ZERO: Row = Row { first: 0, lower: 0, upper: 0 };
+pub const ZERO: Row = Row {
+    first: 0,
+    lower: 0,
+    upper: 0,
+};

@@ -15,7 +15,11 @@ impl Band {
         ensures rows { λ b. ⌜ rowsOf b ≡ zeros ∷ [] ⌝ }
         ensures last { λ b. ⌜ b .last ≡ pos 0 ⌝ }
     {
-        Band { rows: [ZERO; 16], count: 1, last: 0 }
+        Band {
+            rows: [ZERO; 16],
+            count: 1,
+            last: 0,
+        }
     }
 
     // Replaces the whole band, or refuses with the smallest position at fault and leaves it.
@@ -29,7 +33,11 @@ impl Band {
         for i in 0..rows.len() {
             table[i] = rows[i];
         }
-        *self = Band { rows: table, count: rows.len(), last };
+        *self = Band {
+            rows: table,
+            count: rows.len(),
+            last,
+        };
         Ok(())
     }
 }

@@ -78,9 +78,9 @@ sum-in t (suc n) low high =
     ⊎-elim
     (λ (e : t ≡ suc n). let o : one (eqb t (suc n)) ≡ 1 = ap one (eq-eqb t (suc n) e) in omega (arith, k, sum-at t n (omega arith), o))
     (λ (d : t ≡ suc n → ⊥).
-      let o : one (eqb t (suc n)) ≡ 0 = ap one (ne-eqb t (suc n) d) in
-      let less : t ≤ n = ⊎-elim (λ (l : n < t). absurd (d (omega arith))) (λ (l : t ≤ n). l) (cases-lt n t) in
-      omega (arith, k, sum-in t n low less, o))
+    let o : one (eqb t (suc n)) ≡ 0 = ap one (ne-eqb t (suc n) d) in
+    let less : t ≤ n = ⊎-elim (λ (l : n < t). absurd (d (omega arith))) (λ (l : t ≤ n). l) (cases-lt n t) in
+    omega (arith, k, sum-in t n low less, o))
     (cases-eq t (suc n))
 
 module _ (es : List Event) (b : Book) (g : Agrees es b) where
@@ -101,9 +101,10 @@ module _ (es : List Event) (b : Book) (g : Agrees es b) where
 
   -- a serial that is not never given is among those given
   pub was-given : (s : ℕ) → (fate s es ≡ never → ⊥) → (1 ≤ s) × (s ≤ given es)
-  was-given s some =
-      (⊎-elim (λ (l : s < 1). absurd (some (subst (λ n. fate n es ≡ never) (zero-is s l) (g .first)))) (λ (l : 1 ≤ s). l) (cases-lt s 1),
-       ⊎-elim (λ (l : given es < s). absurd (some (g .fresh s l))) (λ (l : s ≤ given es). l) (cases-lt (given es) s))
+  was-given s some = (
+    ⊎-elim (λ (l : s < 1). absurd (some (subst (λ n. fate n es ≡ never) (zero-is s l) (g .first)))) (λ (l : 1 ≤ s). l) (cases-lt s 1),
+    ⊎-elim (λ (l : given es < s). absurd (some (g .fresh s l))) (λ (l : s ≤ given es). l) (cases-lt (given es) s),
+  )
     where
       zero-is : (s : ℕ) → s < 1 → 0 ≡ s
       zero-is s l = omega arith

@@ -70,7 +70,10 @@ module _ (m : Meaning) (b : Book) (k : Kept m b) where
       let some = ltb-true (b .last) last-serial l in
       let few = k .few in let gave = k .given in let over = k .ended in
       record {
-        long = length-set (b .spots) i _ ∙ k .long; few = omega arith; given = omega arith; ended = omega arith;
+        long = length-set (b .spots) i _ ∙ k .long;
+        few = omega arith;
+        given = omega arith;
+        ended = omega arith;
         taken = all-set (Taken m) (b .spots) i (Open (b .last + 1) x) w (k .taken);
       }
   kept-open x true true false w f l = k
@@ -88,7 +91,10 @@ module _ (m : Meaning) (b : Book) (k : Kept m b) where
       let h = hold-shut r (m .lower r) (m .upper r) p in
       let over = k .ended in
       record {
-        long = length-set (b .spots) i _ ∙ k .long; few = k .few; given = k .given; ended = omega arith;
+        long = length-set (b .spots) i _ ∙ k .long;
+        few = k .few;
+        given = k .given;
+        ended = omega arith;
         taken = all-set (Taken m) (b .spots) i _ (hold-taken m r p t (all-getD (Taken m) (b .spots) i Free lt (k .taken))) (k .taken);
       }
   kept-file s r true true false f t =
@@ -98,7 +104,10 @@ module _ (m : Meaning) (b : Book) (k : Kept m b) where
       let o = open-is s (getD (b .spots) i Free) (first-passes (open-as s) (b .spots) Free lt) in
       let over = k .ended in
       record {
-        long = length-set (b .spots) i _ ∙ k .long; few = k .few; given = k .given; ended = omega arith;
+        long = length-set (b .spots) i _ ∙ k .long;
+        few = k .few;
+        given = k .given;
+        ended = omega arith;
         taken = all-set (Taken m) (b .spots) i Free tt (k .taken);
       }
   kept-file s r true false z f t = k
@@ -112,7 +121,10 @@ module _ (m : Meaning) (b : Book) (k : Kept m b) where
       let o = open-is s (getD (b .spots) i Free) (first-passes (open-as s) (b .spots) Free lt) in
       let over = k .ended in
       record {
-        long = length-set (b .spots) i _ ∙ k .long; few = k .few; given = k .given; ended = omega arith;
+        long = length-set (b .spots) i _ ∙ k .long;
+        few = k .few;
+        given = k .given;
+        ended = omega arith;
         taken = all-set (Taken m) (b .spots) i Free tt (k .taken);
       }
   kept-abort s true false f = k
@@ -126,7 +138,10 @@ module _ (m : Meaning) (b : Book) (k : Kept m b) where
       let o = held-shut s (getD (b .spots) i Free) (first-passes (held-as s) (b .spots) Free lt) in
       let over = k .ended in
       record {
-        long = length-set (b .spots) i _ ∙ k .long; few = k .few; given = k .given; ended = omega arith;
+        long = length-set (b .spots) i _ ∙ k .long;
+        few = k .few;
+        given = k .given;
+        ended = omega arith;
         taken = all-set (Taken m) (b .spots) i Free tt (k .taken);
       }
   kept-withdraw s false f = k

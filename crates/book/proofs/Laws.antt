@@ -40,7 +40,7 @@ open-due n t false l = refl
 
 file-due : (m : Meaning) (s : ℕ) (r : ℤ) (x y z : Bool)
     → cond x (filing s (cond y (cond z (Ok (m .lower r, m .upper r)) (Err (refusal.ReadingNotTaken (stage.told (m .place r)) (m .value r)))) (Err refusal.PointNotOpen))) (answer.Refused refusal.PointNotOpen)
-      ≡ cond (x && y) (cond z (answer.Filed s (m .lower r) (m .upper r)) (answer.Refused (refusal.ReadingNotTaken (stage.told (m .place r)) (m .value r)))) (answer.Refused refusal.PointNotOpen)
+    ≡ cond (x && y) (cond z (answer.Filed s (m .lower r) (m .upper r)) (answer.Refused (refusal.ReadingNotTaken (stage.told (m .place r)) (m .value r)))) (answer.Refused refusal.PointNotOpen)
 file-due m s r true true true = refl
 file-due m s r true true false = refl
 file-due m s r true false z = refl
@@ -59,12 +59,12 @@ module _ (m : Meaning) (n : ℕ) (es : List Event) (b : Book) (g : Agrees es b) 
   pub told-due : (c : Call) → told m n b c ≡ due m n es c
   told-due (call.Open x) =
       ap (λ a. Some (cond (within x) a (answer.Refused refusal.ArgumentOutOfLimits)))
-        (open-due n (b .last + 1) (found is-free b) (ltb (b .last) last-serial)
-        ∙ ap (λ f. cond f (cond (ltb (b .last) last-serial) (answer.Opened n (b .last + 1)) (answer.Refused refusal.NoSerialLeft)) (answer.Refused refusal.NoFreePlace)) (found-free es b g)
-        ∙ ap (λ l. cond (ltb (open-count es + held-count es) place-count) (cond (ltb l last-serial) (answer.Opened n (l + 1)) (answer.Refused refusal.NoSerialLeft)) (answer.Refused refusal.NoFreePlace)) (g .last))
+      (open-due n (b .last + 1) (found is-free b) (ltb (b .last) last-serial)
+      ∙ ap (λ f. cond f (cond (ltb (b .last) last-serial) (answer.Opened n (b .last + 1)) (answer.Refused refusal.NoSerialLeft)) (answer.Refused refusal.NoFreePlace)) (found-free es b g)
+      ∙ ap (λ l. cond (ltb (open-count es + held-count es) place-count) (cond (ltb l last-serial) (answer.Opened n (l + 1)) (answer.Refused refusal.NoSerialLeft)) (answer.Refused refusal.NoFreePlace)) (g .last))
   told-due (call.File k s r) =
       ap Some (file-due m s r (eqb k n) (found (open-as s) b) (m .taken r)
-        ∙ ap (λ y. cond (eqb k n && y) (cond (m .taken r) (answer.Filed s (m .lower r) (m .upper r)) (answer.Refused (refusal.ReadingNotTaken (stage.told (m .place r)) (m .value r)))) (answer.Refused refusal.PointNotOpen)) (found-open es b g s))
+      ∙ ap (λ y. cond (eqb k n && y) (cond (m .taken r) (answer.Filed s (m .lower r) (m .upper r)) (answer.Refused (refusal.ReadingNotTaken (stage.told (m .place r)) (m .value r)))) (answer.Refused refusal.PointNotOpen)) (found-open es b g s))
   told-due (call.Abort k s) =
       ap Some (abort-due s (eqb k n) (found (open-as s) b) ∙ ap (λ y. cond (eqb k n && y) (answer.Aborted s) (answer.Refused refusal.PointNotOpen)) (found-open es b g s))
   told-due (call.Withdraw s) =
@@ -89,10 +89,14 @@ module _ (Q : Questions) (unordered : Unordered Q) (m : Meaning) (n : ℕ) where
   pub law-step : (h : History) (b : Book) → Agrees (events h) b → Lawful Q m n h → (c : Call) (r : Answer) → Answers (told m n b c) (Q (rows b) c r) r
       → Lawful Q m n ((c, r) ∷ h) × Agrees (events ((c, r) ∷ h)) (next m n b c)
   unfolding events Lawful
-  law-step h b g l c r e =
-      ((subst (λ o. Answers o (Q (held (events h)) c r) r) (told-due m n (events h) b g c)
-         (weaker (told m n b c) r (Q (rows b) c r) (Q (held (events h)) c r) (unordered (rows b) (held (events h)) (same-rows (events h) b g) c r) e), l),
-       agrees-next m n (events h) b g c r (Q (rows b) c r) e)
+  law-step h b g l c r e = (
+    (
+      subst (λ o. Answers o (Q (held (events h)) c r) r) (told-due m n (events h) b g c)
+          (weaker (told m n b c) r (Q (rows b) c r) (Q (held (events h)) c r) (unordered (rows b) (held (events h)) (same-rows (events h) b g) c r) e),
+      l,
+    ),
+    agrees-next m n (events h) b g c r (Q (rows b) c r) e,
+  )
 
   pub run-law : (h : History) (b : Book) → Agrees (events h) b → Lawful Q m n h → (cs : List Call) (rs : List Answer) → Replies Q m n b cs rs
       → Lawful Q m n (upon h cs rs) × Agrees (events (upon h cs rs)) (after m n b cs)
@@ -175,4 +179,4 @@ module _ (m : Meaning) (n : ℕ) where
       → Replies Q m n b (take (i + 1) cs) (take (i + 1) (set rs i r))
   replies-more Q b cs rs i d r lt lt′ e a =
       subst (λ xs. Replies Q m n b xs (take (i + 1) (set rs i r))) (sym (take-more cs i d lt))
-        (subst (Replies Q m n b (take i cs ++ getD cs i d ∷ [])) (sym (take-more-set rs i r lt′)) (replies-push Q b (take i cs) (take i rs) (getD cs i d) r e a))
+      (subst (Replies Q m n b (take i cs ++ getD cs i d ∷ [])) (sym (take-more-set rs i r lt′)) (replies-push Q b (take i cs) (take i rs) (getD cs i d) r e a))

@@ -49,21 +49,21 @@ has-row es x st [] f some = absurd (omega arith)
 has-row es x st (Free ∷ ps) f some = has-row es x st ps (f .1) (omega (arith, sumBy-cons (λ p. one (bears (x .serial) p)) Free ps))
 has-row es x st (Open s y ∷ ps) f some = ⊎-elim
     (λ (e : eqb s (x .serial) ≡ true).
-      let q = eqb-true s (x .serial) e in
-      let h : fate (x .serial) es ≡ open-at y = subst (λ n. fate n es ≡ open-at y) q (f .0) in
-      let k = st .fares in
-      absurd (let z : _≡_ {A = ℕ} 0 1 = cc in omega arith))
+    let q = eqb-true s (x .serial) e in
+    let h : fate (x .serial) es ≡ open-at y = subst (λ n. fate n es ≡ open-at y) q (f .0) in
+    let k = st .fares in
+    absurd (let z : _≡_ {A = ℕ} 0 1 = cc in omega arith))
     (λ (e : eqb s (x .serial) ≡ false).
-      let o : one (eqb s (x .serial)) ≡ 0 = ap one e in
-      has-row es x st ps (f .1) (omega (arith, sumBy-cons (λ p. one (bears (x .serial) p)) (Open s y) ps, o)))
+    let o : one (eqb s (x .serial)) ≡ 0 = ap one e in
+    has-row es x st ps (f .1) (omega (arith, sumBy-cons (λ p. one (bears (x .serial) p)) (Open s y) ps, o)))
     (cases-bool (eqb s (x .serial)))
 has-row es x st (Held s y r l u ∷ ps) f some = ⊎-elim
     (λ (e : eqb s (x .serial) ≡ true).
-      let h = same-row es (a-row s y l u) x (record { reading = r; fares = f .0 }) st (eqb-true s (x .serial) e) in
-      subst (Has (a-row s y l u ∷ held-rows ps)) h (has-getD (a-row s y l u ∷ held-rows ps) 0 x (omega arith)))
+    let h = same-row es (a-row s y l u) x (record { reading = r; fares = f .0 }) st (eqb-true s (x .serial) e) in
+    subst (Has (a-row s y l u ∷ held-rows ps)) h (has-getD (a-row s y l u ∷ held-rows ps) 0 x (omega arith)))
     (λ (e : eqb s (x .serial) ≡ false).
-      let o : one (eqb s (x .serial)) ≡ 0 = ap one e in
-      has-append-right (a-row s y l u ∷ []) (held-rows ps) x (has-row es x st ps (f .1) (omega (arith, sumBy-cons (λ p. one (bears (x .serial) p)) (Held s y r l u) ps, o))))
+    let o : one (eqb s (x .serial)) ≡ 0 = ap one e in
+    has-append-right (a-row s y l u ∷ []) (held-rows ps) x (has-row es x st ps (f .1) (omega (arith, sumBy-cons (λ p. one (bears (x .serial) p)) (Held s y r l u) ps, o))))
     (cases-bool (eqb s (x .serial)))
 
 -- ---- the history's
@@ -88,25 +88,26 @@ has-held es x st (suc n) low high =
     let rest = joined (λ s. row s (fate s es)) (up-to n) in
     ⊎-elim
     (λ (e : x .serial ≡ suc n).
-      let k : row (suc n) (fate (suc n) es) ≡ x ∷ [] = subst (λ s. row s (fate s es) ≡ x ∷ []) e (ap (row (x .serial)) (st .fares)) in
-      has-append-left (row (suc n) (fate (suc n) es)) rest x (subst (λ xs. Has xs x) (sym k) (has-getD (x ∷ []) 0 x (omega arith))))
+    let k : row (suc n) (fate (suc n) es) ≡ x ∷ [] = subst (λ s. row s (fate s es) ≡ x ∷ []) e (ap (row (x .serial)) (st .fares)) in
+    has-append-left (row (suc n) (fate (suc n) es)) rest x (subst (λ xs. Has xs x) (sym k) (has-getD (x ∷ []) 0 x (omega arith))))
     (λ (d : x .serial ≡ suc n → ⊥).
-      let less : x .serial ≤ n = ⊎-elim (λ (l : n < x .serial). absurd (d (omega arith))) (λ (l : x .serial ≤ n). l) (cases-lt n (x .serial)) in
-      has-append-right (row (suc n) (fate (suc n) es)) rest x (has-held es x st n low less))
+    let less : x .serial ≤ n = ⊎-elim (λ (l : n < x .serial). absurd (d (omega arith))) (λ (l : x .serial ≤ n). l) (cases-lt n (x .serial)) in
+    has-append-right (row (suc n) (fate (suc n) es)) rest x (has-held es x st n low less))
     (cases-eq (x .serial) (suc n))
 
 module _ (es : List Event) (b : Book) (g : Agrees es b) where
   -- the rows of the book are the rows of the history
   pub same-rows : SameRows (rows b) (held es)
-  same-rows x =
-      ((λ has. let st = all-has (Stands es) (rows b) x (rows-stand es (b .spots) (g .each)) has in
+  same-rows x = (
+    (λ has. let st = all-has (Stands es) (rows b) x (rows-stand es (b .spots) (g .each)) has in
         let f = st .fares in
         let k = was-given es b g (x .serial) (λ e. let z : _≡_ {A = ℕ} 0 1 = cc in omega arith) in
         has-held es x st (given es) (k .0) (k .1)),
-       (λ has. let st = all-has (Stands es) (held es) x (held-stand es (serials es)) has in
+    (λ has. let st = all-has (Stands es) (held es) x (held-stand es (serials es)) has in
         let o : one (stands (fate (x .serial) es)) ≡ 1 = ap (λ f. one (stands f)) (st .fares) in
         let c = g .once (x .serial) in
-        has-row es x st (b .spots) (g .each) (omega arith)))
+        has-row es x st (b .spots) (g .each) (omega arith)),
+  )
 
   pub distinct-rows : DistinctSerials (rows b)
   distinct-rows x y p q =

@@ -111,40 +111,47 @@ module _ (es : List Event) (b : Book) (g : Agrees es b) where
     once-moved : (s : ℕ) → countBy (bears s) (set (b .spots) i q) ≡ one (stands (fate s (e ∷ es)))
     once-moved s = ⊎-elim
         (λ (y : eqb s t ≡ true). subst (λ n. countBy (bears n) (set (b .spots) i q) ≡ one (stands (fate n (e ∷ es)))) (sym (eqb-true s t y))
-          (let a : one (bears t (getD (b .spots) i Free)) ≡ one (stands (fate t es)) = ap one (move .was-own) in
-          let c : one (bears t q) ≡ one (stands (fate t (e ∷ es))) = ap one (move .now-own) in
-          omega (arith, change t q, g .once t, a, c)))
+        (let a : one (bears t (getD (b .spots) i Free)) ≡ one (stands (fate t es)) = ap one (move .was-own) in
+        let c : one (bears t q) ≡ one (stands (fate t (e ∷ es))) = ap one (move .now-own) in
+        omega (arith, change t q, g .once t, a, c)))
         (λ (d : eqb s t ≡ false).
-          let a : one (bears s (getD (b .spots) i Free)) ≡ 0 = ap one (move .was s d) in
-          let c : one (bears s q) ≡ 0 = ap one (move .now′ s d) in
-          let f : one (stands (fate s (e ∷ es))) ≡ one (stands (fate s es)) = ap (λ f. one (stands f)) (move .others s d) in
-          omega (arith, change s q, g .once s, a, c, f))
+        let a : one (bears s (getD (b .spots) i Free)) ≡ 0 = ap one (move .was s d) in
+        let c : one (bears s q) ≡ 0 = ap one (move .now′ s d) in
+        let f : one (stands (fate s (e ∷ es))) ≡ one (stands (fate s es)) = ap (λ f. one (stands f)) (move .others s d) in
+        omega (arith, change s q, g .once s, a, c, f))
         (cases-bool (eqb s t))
 
     moved : (b′ : Book) → given es ≤ given (e ∷ es) → b′ .spots ≡ set (b .spots) i q → b′ .last ≡ given (e ∷ es)
         → b′ .opened ≡ countBy law.opening (since (e ∷ es)) → b′ .filed ≡ countBy law.filing (since (e ∷ es))
         → b′ .spoiled ≡ countBy law.spoiling (since (e ∷ es)) → b′ .aborted ≡ countBy law.aborting (since (e ∷ es)) → Agrees (e ∷ es) b′
     moved b′ more spots last o f p a = record {
-        long = ap length spots ∙ length-set (b .spots) i q ∙ g .long;
-        last = last;
-        opened = o;
-        filed = f;
-        spoiled = p;
-        aborted = a;
-        first = (let low = move .low in move .others 0 (ne-eqb 0 t (λ z. omega arith)) ∙ g .first);
-        fresh = λ s past. (let high = move .high in move .others s (ne-eqb s t (λ z. omega arith)) ∙ g .fresh s (omega arith));
-        each = subst (All (Fares (e ∷ es))) (sym spots) each-moved;
-        once = λ s. ap (countBy (bears s)) spots ∙ once-moved s;
-      }
+      long = ap length spots ∙ length-set (b .spots) i q ∙ g .long;
+      last = last;
+      opened = o;
+      filed = f;
+      spoiled = p;
+      aborted = a;
+      first = (let low = move .low in move .others 0 (ne-eqb 0 t (λ z. omega arith)) ∙ g .first);
+      fresh = λ s past. (let high = move .high in move .others s (ne-eqb s t (λ z. omega arith)) ∙ g .fresh s (omega arith));
+      each = subst (All (Fares (e ∷ es))) (sym spots) each-moved;
+      once = λ s. ap (countBy (bears s)) spots ∙ once-moved s;
+    }
 
   -- nothing changes
   pub still : Agrees (nothing ∷ es) b
   unfolding fate since
   still = record {
-      long = g .long; last = g .last; opened = g .opened; filed = g .filed; spoiled = g .spoiled; aborted = g .aborted;
-      first = g .first; fresh = g .fresh; once = g .once;
-      each = all-weaker (Fares es) (Fares (nothing ∷ es)) same (b .spots) (g .each);
-    }
+    long = g .long;
+    last = g .last;
+    opened = g .opened;
+    filed = g .filed;
+    spoiled = g .spoiled;
+    aborted = g .aborted;
+    first = g .first;
+    fresh = g .fresh;
+    once = g .once;
+    each = all-weaker (Fares es) (Fares (nothing ∷ es)) same (b .spots) (g .each);
+  }
     where
       same : (p : Spot) → Fares es p → Fares (nothing ∷ es) p
       same Free f = tt
@@ -155,12 +162,17 @@ module _ (es : List Event) (b : Book) (g : Agrees es b) where
   pub swept : Agrees (clears ∷ es) (cleared (b .last))
   unfolding fate since
   swept = record {
-      long = refl; last = g .last; opened = refl; filed = refl; spoiled = refl; aborted = refl;
-      first = ap law.sweep (g .first);
-      fresh = λ s past. ap law.sweep (g .fresh s past);
-      each = all-free (clears ∷ es) place-count;
-      once = λ s. sym (ap one (swept-none (fate s es)));
-    }
+    long = refl;
+    last = g .last;
+    opened = refl;
+    filed = refl;
+    spoiled = refl;
+    aborted = refl;
+    first = ap law.sweep (g .first);
+    fresh = λ s past. ap law.sweep (g .fresh s past);
+    each = all-free (clears ∷ es) place-count;
+    once = λ s. sym (ap one (swept-none (fate s es)));
+  }
 
   found-inside : (test : Spot → Bool) → found test b ≡ true → first test b < length (b .spots)
   found-inside test e = let l = g .long in let k = ltb-true (first test b) place-count e in omega arith
@@ -205,16 +217,16 @@ module _ (es : List Event) (b : Book) (g : Agrees es b) where
   -- the serial comes to an end, and its spot is freed
   ends : (e : Event) (t i : ℕ) (f : Fate) → Bearing es b t i → stands f ≡ false → given (e ∷ es) ≡ given es → ((s : ℕ) → fate s (e ∷ es) ≡ cond (eqb s t) f (fate s es)) → Move es b e t i Free
   ends e t i f bearing over same turns = record {
-      inside = bearing .inside;
-      was = bearing .was;
-      was-own = bearing .was-own;
-      now′ = λ s d. refl;
-      now-own = sym (ap stands (turns t ∙ ap (λ x. cond x f (fate t es)) (eq-eqb t t refl)) ∙ over);
-      fares = tt;
-      others = λ s d. turns s ∙ ap (λ x. cond x f (fate s es)) d;
-      low = bearing .low;
-      high = (let h = bearing .high in omega arith);
-    }
+    inside = bearing .inside;
+    was = bearing .was;
+    was-own = bearing .was-own;
+    now′ = λ s d. refl;
+    now-own = sym (ap stands (turns t ∙ ap (λ x. cond x f (fate t es)) (eq-eqb t t refl)) ∙ over);
+    fares = tt;
+    others = λ s d. turns s ∙ ap (λ x. cond x f (fate s es)) d;
+    low = bearing .low;
+    high = (let h = bearing .high in omega arith);
+  }
 
   -- a reading that is taken
   holds : (t : ℕ) (r l u : ℤ) → found (open-as t) b ≡ true
@@ -229,18 +241,18 @@ module _ (es : List Event) (b : Book) (g : Agrees es b) where
       let be = bearing-open t e in
       let turned : fate t (files t r l u ∷ es) ≡ held-at x r l u = ap (λ y. cond y (law.file r l u (fate t es)) (fate t es)) me ∙ ap (law.file r l u) (k .2) in
       let move : Move es b (files t r l u) t i (Held t x r l u) = record {
-          inside = be .inside;
-          was = be .was;
-          was-own = be .was-own;
-          now′ = λ s d. eqb-swap s t d;
-          now-own = me ∙ sym (ap stands turned);
-          fares = turned;
-          others = λ s d. ap (λ y. cond y (law.file r l u (fate s es)) (fate s es)) d;
-          low = be .low;
-          high = be .high;
-        } in
+        inside = be .inside;
+        was = be .was;
+        was-own = be .was-own;
+        now′ = λ s d. eqb-swap s t d;
+        now-own = me ∙ sym (ap stands turned);
+        fares = turned;
+        others = λ s d. ap (λ y. cond y (law.file r l u (fate s es)) (fate s es)) d;
+        low = be .low;
+        high = be .high;
+      } in
       moved es b g (files t r l u) t i (Held t x r l u) move _ (omega arith) (ap (λ p. set (b .spots) i (hold r l u p)) (k .1)) (g .last)
-        (g .opened) (let f = g .filed in omega (arith, sumBy-cons (λ e. one (law.filing e)) (files t r l u) (since es))) (g .spoiled) (g .aborted)
+      (g .opened) (let f = g .filed in omega (arith, sumBy-cons (λ e. one (law.filing e)) (files t r l u) (since es))) (g .spoiled) (g .aborted)
 
   -- a reading that is not
   spoils-agrees : (t : ℕ) → found (open-as t) b ≡ true → Agrees (spoils t ∷ es) (one-spoiled (put b (first (open-as t) b) Free))
@@ -248,21 +260,21 @@ module _ (es : List Event) (b : Book) (g : Agrees es b) where
   spoils-agrees t e =
       let i = first (open-as t) b in
       moved es b g (spoils t) t i Free (ends (spoils t) t i law.spoiled (bearing-open t e) refl refl (λ s. refl)) _ (omega arith) refl (g .last)
-        (g .opened) (g .filed) (let f = g .spoiled in omega (arith, sumBy-cons (λ e. one (law.spoiling e)) (spoils t) (since es))) (g .aborted)
+      (g .opened) (g .filed) (let f = g .spoiled in omega (arith, sumBy-cons (λ e. one (law.spoiling e)) (spoils t) (since es))) (g .aborted)
 
   aborts-agrees : (t : ℕ) → found (open-as t) b ≡ true → Agrees (aborts t ∷ es) (one-aborted (put b (first (open-as t) b) Free))
   unfolding fate since
   aborts-agrees t e =
       let i = first (open-as t) b in
       moved es b g (aborts t) t i Free (ends (aborts t) t i law.aborted (bearing-open t e) refl refl (λ s. refl)) _ (omega arith) refl (g .last)
-        (g .opened) (g .filed) (g .spoiled) (let f = g .aborted in omega (arith, sumBy-cons (λ e. one (law.aborting e)) (aborts t) (since es)))
+      (g .opened) (g .filed) (g .spoiled) (let f = g .aborted in omega (arith, sumBy-cons (λ e. one (law.aborting e)) (aborts t) (since es)))
 
   withdraws-agrees : (t : ℕ) → found (held-as t) b ≡ true → Agrees (withdraws t ∷ es) (put b (first (held-as t) b) Free)
   unfolding fate since
   withdraws-agrees t e =
       let i = first (held-as t) b in
       moved es b g (withdraws t) t i Free (ends (withdraws t) t i law.withdrawn (bearing-held t e) refl refl (λ s. refl)) _ (omega arith) refl (g .last)
-        (g .opened) (g .filed) (g .spoiled) (g .aborted)
+      (g .opened) (g .filed) (g .spoiled) (g .aborted)
 
   -- a new point
   opens-agrees : (x : ℤ) → found is-free b ≡ true → Agrees (opens (b .last + 1) x ∷ es) (one-opened (put b (first is-free b) (Open (b .last + 1) x)))
@@ -277,23 +289,23 @@ module _ (es : List Event) (b : Book) (g : Agrees es b) where
       let more = sumBy-cons (λ e. one (law.opening e)) (opens t x) es in
       let turned : fate t (opens t x ∷ es) ≡ open-at x = ap (λ y. cond y (open-at x) (fate t es)) me in
       let move : Move es b (opens t x) t i (Open t x) = record {
-          inside = lt;
-          was = λ s d. ap (bears s) p;
-          was-own = ap (bears t) p ∙ sym (ap stands (g .fresh t (omega arith)));
-          now′ = λ s d. eqb-swap s t d;
-          now-own = me ∙ sym (ap stands turned);
-          fares = turned;
-          others = λ s d. ap (λ y. cond y (open-at x) (fate s es)) d;
-          low = omega arith;
-          high = omega (arith, more);
-        } in
+        inside = lt;
+        was = λ s d. ap (bears s) p;
+        was-own = ap (bears t) p ∙ sym (ap stands (g .fresh t (omega arith)));
+        now′ = λ s d. eqb-swap s t d;
+        now-own = me ∙ sym (ap stands turned);
+        fares = turned;
+        others = λ s d. ap (λ y. cond y (open-at x) (fate s es)) d;
+        low = omega arith;
+        high = omega (arith, more);
+      } in
       moved es b g (opens t x) t i (Open t x) move _ (omega (arith, more)) refl (omega (arith, more))
-        (let f = g .opened in omega (arith, sumBy-cons (λ e. one (law.opening e)) (opens t x) (since es))) (g .filed) (g .spoiled) (g .aborted)
+      (let f = g .opened in omega (arith, sumBy-cons (λ e. one (law.opening e)) (opens t x) (since es))) (g .filed) (g .spoiled) (g .aborted)
 
 module _ (m : Meaning) (n : ℕ) (es : List Event) (b : Book) (g : Agrees es b) where
   agrees-open : (x : ℤ) (w f l : Bool) → found is-free b ≡ f
       → Agrees (event (call.Open x) (cond w (opening n (cond f (cond l (Ok (b .last + 1)) (Err refusal.NoSerialLeft)) (Err refusal.NoFreePlace))) (answer.Refused refusal.ArgumentOutOfLimits)) ∷ es)
-          (cond w (cond f (cond l (one-opened (put b (first is-free b) (Open (b .last + 1) x))) b) b) b)
+      (cond w (cond f (cond l (one-opened (put b (first is-free b) (Open (b .last + 1) x))) b) b) b)
   agrees-open x true true true e = opens-agrees es b g x e
   agrees-open x true true false e = still es b g
   agrees-open x true false l e = still es b g
@@ -301,7 +313,7 @@ module _ (m : Meaning) (n : ℕ) (es : List Event) (b : Book) (g : Agrees es b) 
 
   agrees-file : (k s : ℕ) (r : ℤ) (x y z : Bool) → found (open-as s) b ≡ y
       → Agrees (event (call.File k s r) (cond x (filing s (cond y (cond z (Ok (m .lower r, m .upper r)) (Err (refusal.ReadingNotTaken (stage.told (m .place r)) (m .value r)))) (Err refusal.PointNotOpen))) (answer.Refused refusal.PointNotOpen)) ∷ es)
-          (cond x (cond y (cond z (one-filed (put b (first (open-as s) b) (hold r (m .lower r) (m .upper r) (getD (b .spots) (first (open-as s) b) Free)))) (one-spoiled (put b (first (open-as s) b) Free))) b) b)
+      (cond x (cond y (cond z (one-filed (put b (first (open-as s) b) (hold r (m .lower r) (m .upper r) (getD (b .spots) (first (open-as s) b) Free)))) (one-spoiled (put b (first (open-as s) b) Free))) b) b)
   agrees-file k s r true true true e = holds es b g s r (m .lower r) (m .upper r) e
   agrees-file k s r true true false e = spoils-agrees es b g s e
   agrees-file k s r true false z e = still es b g
@@ -309,7 +321,7 @@ module _ (m : Meaning) (n : ℕ) (es : List Event) (b : Book) (g : Agrees es b) 
 
   agrees-abort : (k s : ℕ) (x y : Bool) → found (open-as s) b ≡ y
       → Agrees (event (call.Abort k s) (cond x (ending (answer.Aborted s) (cond y (Ok tt) (Err refusal.PointNotOpen))) (answer.Refused refusal.PointNotOpen)) ∷ es)
-          (cond x (cond y (one-aborted (put b (first (open-as s) b) Free)) b) b)
+      (cond x (cond y (one-aborted (put b (first (open-as s) b) Free)) b) b)
   agrees-abort k s true true e = aborts-agrees es b g s e
   agrees-abort k s true false e = still es b g
   agrees-abort k s false y e = still es b g
@@ -334,6 +346,14 @@ module _ (m : Meaning) (n : ℕ) (es : List Event) (b : Book) (g : Agrees es b) 
 pub agrees-blank : Agrees [] blank
 unfolding fate since
 agrees-blank = record {
-    long = refl; last = refl; opened = refl; filed = refl; spoiled = refl; aborted = refl;
-    first = refl; fresh = λ s past. refl; each = all-free [] place-count; once = λ s. refl;
-  }
+  long = refl;
+  last = refl;
+  opened = refl;
+  filed = refl;
+  spoiled = refl;
+  aborted = refl;
+  first = refl;
+  fresh = λ s past. refl;
+  each = all-free [] place-count;
+  once = λ s. refl;
+}

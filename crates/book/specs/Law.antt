@@ -235,13 +235,13 @@ held-count es = countBy (λ s. is-held (fate s es)) (serials es)
 
 abbrev pub tallies : List Event → Tallies
 tallies es = record {
-    opened = countBy opening (since es);
-    filed = countBy filing (since es);
-    spoiled = countBy spoiling (since es);
-    aborted = countBy aborting (since es);
-    «open» = open-count es;
-    held = held-count es;
-  }
+  opened = countBy opening (since es);
+  filed = countBy filing (since es);
+  spoiled = countBy spoiling (since es);
+  aborted = countBy aborting (since es);
+  «open» = open-count es;
+  held = held-count es;
+}
 
 -- every point since the last clearing was filed, spoiled or aborted, or is open
 abbrev pub Balanced : List Event → Type 0
@@ -265,8 +265,8 @@ held es = joined (λ s. row s (fate s es)) (serials es)
 abbrev pub due : Meaning → ℕ → List Event → Call → Option Answer
 due m n es (call.Open x) = Some (cond (within x)
     (cond (ltb (open-count es + held-count es) place-count)
-      (cond (ltb (given es) last-serial) (answer.Opened n (given es + 1)) (answer.Refused NoSerialLeft))
-      (answer.Refused NoFreePlace))
+    (cond (ltb (given es) last-serial) (answer.Opened n (given es + 1)) (answer.Refused NoSerialLeft))
+    (answer.Refused NoFreePlace))
     (answer.Refused ArgumentOutOfLimits))
 due m n es (call.File k s r) = Some (cond (eqb k n && is-open (fate s es))
     (cond (m .taken r) (answer.Filed s (m .lower r) (m .upper r)) (answer.Refused (ReadingNotTaken (told (m .place r)) (m .value r))))

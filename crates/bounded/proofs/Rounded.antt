@@ -56,8 +56,14 @@ module _ (d : ℕ) (few : d ≤ greatest-relative) where
 
   pub negative : (n : ℕ) → lowered d (negsuc n) <ℤ pos 0
   negative n = by-ltZ (lowered d (negsuc n)) (pos 0) (λ less. less)
-      (λ from. absurd (omega (arith, linear, product-is, not-above (negsuc n),
-        times-grows {a = pos 0} {b = lowered d (negsuc n)} (divisor d (negsuc n)) (omega (arith, linear, divisor-positive (negsuc n))) from, zero-*ℤ (divisor d (negsuc n)))))
+      (λ from. absurd (omega (
+        arith,
+        linear,
+        product-is,
+        not-above (negsuc n),
+        times-grows {a = pos 0} {b = lowered d (negsuc n)} (divisor d (negsuc n)) (omega (arith, linear, divisor-positive (negsuc n))) from,
+        zero-*ℤ (divisor d (negsuc n)),
+      )))
 
   pub lowered-rises : (w z : ℤ) → w ≤ℤ z → lowered d w ≤ℤ lowered d z
   lowered-rises (pos n) (pos m) h = lowered-down (pos m) (lowered d (pos n)) .0 (omega (arith, linear, not-above (pos n), times-grows {a = pos n} {b = pos m} (pos million) (omega (arith, linear)) h))

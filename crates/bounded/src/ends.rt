@@ -28,10 +28,16 @@ impl Bounded {
         ensures { λ r. ⌜ r ≡ lowerEnd (now (self .entry) .absolute) (now (self .entry) .relative) reading ⌝ }
     {
         let low = reading as i64 - self.absolute as i64;
+        let wide = Divisor {
+            value: 1_000_000 + self.relative as i64,
+        };
+        let narrow = Divisor {
+            value: 1_000_000 - self.relative as i64,
+        };
         if low >= 0 {
-            Divisor { value: 1_000_000 + self.relative as i64 }.floor(low * 1_000_000)
+            wide.floor(low * 1_000_000)
         } else {
-            Divisor { value: 1_000_000 - self.relative as i64 }.floor(low * 1_000_000)
+            narrow.floor(low * 1_000_000)
         }
     }
 
@@ -40,10 +46,16 @@ impl Bounded {
         ensures { λ r. ⌜ r ≡ upperEnd (now (self .entry) .absolute) (now (self .entry) .relative) reading ⌝ }
     {
         let high = reading as i64 + self.absolute as i64;
+        let wide = Divisor {
+            value: 1_000_000 + self.relative as i64,
+        };
+        let narrow = Divisor {
+            value: 1_000_000 - self.relative as i64,
+        };
         if high >= 0 {
-            Divisor { value: 1_000_000 - self.relative as i64 }.ceiling(high * 1_000_000)
+            narrow.ceiling(high * 1_000_000)
         } else {
-            Divisor { value: 1_000_000 + self.relative as i64 }.ceiling(high * 1_000_000)
+            wide.ceiling(high * 1_000_000)
         }
     }
 

@@ -32,10 +32,10 @@ module _ (m : Meaning) (n : ℕ) (b : Book) where
 
 -- a question about the lines through what the places hold
 pub asks-on : (m : Meaning) (n : ℕ) (g : Register) (c : Call) → next m n (page g) c ≡ page g → told m n (page g) c ≡ None → (r : Answer) → Says (held (g .places .all)) c r
-  → GoesOn m n (page g) c r (page g)
+    → GoesOn m n (page g) c r (page g)
 asks-on m n g c still none r says h led =
     let b = page g in
     let sheet = sheet-of (g .places .all) (distinct-rows (events h) b (led .1)) in
     let lines : OfLines (rows b) c r = (held (g .places .all), sheet, says) in
     subst (Led m n ((c, r) ∷ h)) still
-      (law-step OfLines unordered m n h b (led .1) (led .0) c r (subst (λ o. Answers o (OfLines (rows b) c r) r) (sym none) lines))
+    (law-step OfLines unordered m n h b (led .1) (led .0) c r (subst (λ o. Answers o (OfLines (rows b) c r) r) (sym none) lines))

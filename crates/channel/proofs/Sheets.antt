@@ -40,7 +40,7 @@ same-measurement a b e =
 pub sheet-of : (ps : List Place) → DistinctSerials (held-rows (map spot ps)) → SheetOf (held-rows (map spot ps)) (held ps)
 sheet-of ps distinct =
     let only : (m : Measurement) → Has (held ps) m → Has (held-rows (map spot ps)) (row m) =
-          λ m h. subst (λ xs. Has xs (row m)) (rows-of ps) (has-map row (held ps) m h) in
+    λ m h. subst (λ xs. Has xs (row m)) (rows-of ps) (has-map row (held ps) m h) in
     record {
       only = only;
       all = λ x h. each-of-map (λ x. (m : Measurement) × Has (held ps) m × (row m ≡ x)) row (held ps) (λ m k. (m, k, refl)) x (subst (λ xs. Has xs x) (sym (rows-of ps)) h);

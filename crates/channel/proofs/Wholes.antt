@@ -34,13 +34,13 @@ module _ (m : Meaning) (n : ℕ) (cs : List Call) where
   book-more i d b b′ lt e f = f ∙ ap (λ x. next m n x (getD cs i d)) e ∙ sym (after-more m n blank cs i d lt)
 
   pub answers-more : (i : ℕ) (d : Call) (g : Register) (rs : List Answer) (r : Answer) → i < length cs → i < length rs → page g ≡ after m n blank (take i cs)
-    → Replies OfLines m n blank (take i cs) (take i rs) → Answers (told m n (page g) (getD cs i d)) (Says (held (g .places .all)) (getD cs i d) r) r
-    → Replies OfLines m n blank (take (i + 1) cs) (take (i + 1) (set rs i r))
+      → Replies OfLines m n blank (take i cs) (take i rs) → Answers (told m n (page g) (getD cs i d)) (Says (held (g .places .all)) (getD cs i d) r) r
+      → Replies OfLines m n blank (take (i + 1) cs) (take (i + 1) (set rs i r))
   answers-more i d g rs r lt lt′ e replies told-it =
       let c = getD cs i d in
       let distinct = subst (λ b. DistinctSerials (rows b)) (sym e) (distinct-run m n (take i cs)) in
       replies-more m n OfLines blank cs rs i d r lt lt′ replies
-        (subst (λ b. Answers (told m n b c) (OfLines (rows b) c r) r) e (lines-of (told m n (page g) c) g c r distinct told-it))
+      (subst (λ b. Answers (told m n b c) (OfLines (rows b) c r) r) e (lines-of (told m n (page g) c) g c r distinct told-it))
 
   counted : (b : Book) (rs : List Answer) → Agrees (events (upon [] cs rs)) b → tallies b ≡ counted-tallies (events (upon [] cs rs))
   counted b rs agrees = let e = told-due m n (events (upon [] cs rs)) b agrees call.Tallies in cc

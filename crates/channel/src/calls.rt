@@ -24,7 +24,11 @@ impl<S: Stage> Channel<S> {
         ensures book { λ c. ⌜ page (c .register) ≡ blank ⌝ }
         ensures law { λ c. ⌜ Led (meaning stage) number [] (page (c .register)) ⌝ }
     {
-        Channel { number, stage, register: Register::new() }
+        Channel {
+            number,
+            stage,
+            register: Register::new(),
+        }
     }
 
     // Opens a point at an argument.
@@ -39,7 +43,10 @@ impl<S: Stage> Channel<S> {
             return Err(Refusal::ArgumentOutOfLimits);
         };
         let serial = self.register.open(argument)?;
-        Ok(Point { number: self.number, serial })
+        Ok(Point {
+            number: self.number,
+            serial,
+        })
     }
 
     // Ends a point by a reading: its uncertainty set is held, unless the stage does not take the reading.

@@ -7,6 +7,7 @@ ghost use Rattle.channel.specs.Runs.{GoesOn};
 ghost use Rattle.channel.specs.Told.{ofVerdict, ofSlope, ofValue};
 use crate::channel::Channel;
 use exact::fraction::Fraction;
+use questions::ask;
 use questions::verdict::Verdict;
 use refusal::refusal::Refusal;
 use stage::stage::Stage;
@@ -17,7 +18,7 @@ impl<S: Stage> Channel<S> {
         ensures told { λ r. ⌜ TellsVerdict (held (now (self .entry) .register .places .all)) r ⌝ }
         ensures law { λ r. ⌜ GoesOn (meaning (now (self .entry) .stage)) (now (self .entry) .number) (page (now (self .entry) .register)) call.Verdict (ofVerdict r) (page (now (self .entry) .register)) ⌝ }
     {
-        questions::ask_verdict(self.register.places())
+        ask::verdict(self.register.places())
     }
 
     // The least and the greatest slope of the lines that meet all that is held.
@@ -25,7 +26,7 @@ impl<S: Stage> Channel<S> {
         ensures told { λ r. ⌜ TellsSlope (held (now (self .entry) .register .places .all)) r ⌝ }
         ensures law { λ r. ⌜ GoesOn (meaning (now (self .entry) .stage)) (now (self .entry) .number) (page (now (self .entry) .register)) call.Slope (ofSlope r) (page (now (self .entry) .register)) ⌝ }
     {
-        questions::ask_slope(self.register.places())
+        ask::slope(self.register.places())
     }
 
     // The least and the greatest value of these lines at an argument.
@@ -33,6 +34,6 @@ impl<S: Stage> Channel<S> {
         ensures told { λ r. ⌜ TellsValue (held (now (self .entry) .register .places .all)) argument r ⌝ }
         ensures law { λ r. ⌜ GoesOn (meaning (now (self .entry) .stage)) (now (self .entry) .number) (page (now (self .entry) .register)) (call.Value argument) (ofValue r) (page (now (self .entry) .register)) ⌝ }
     {
-        questions::ask_value(self.register.places(), argument)
+        ask::value(self.register.places(), argument)
     }
 }

@@ -5,13 +5,43 @@ ghost use Rattle.book.specs.Book.{next, told};
 ghost use Rattle.book.specs.Rows.{Answers};
 ghost use Rattle.places.specs.Held.{held};
 ghost use Rattle.register.specs.Page.{page};
-ghost use Rattle.channel.specs.Lines.{Says};
+ghost use Rattle.channel.specs.Lines.{Says, VerdictSays, SlopeSays, ValueSays};
 ghost use Rattle.channel.specs.Runs.{Whole};
 use crate::channel::Channel;
 use crate::point::Point;
 use book::answer::Answer;
 use book::call::Call;
+use questions::verdict::Verdict;
 use stage::stage::Stage;
+
+// The answers of the questions about lines, as a run notes them.
+fn verdict_answer<S: Stage>(channel: &Channel<S>) -> Answer
+    ensures { λ r. ⌜ VerdictSays (held (now (channel .entry) .register .places .all)) r ⌝ }
+{
+    match channel.verdict() {
+        Ok(Verdict::Line) => Answer::Line,
+        Ok(Verdict::Conflict { conflict }) => Answer::Conflicting { conflict },
+        Err(refusal) => Answer::Refused { refusal },
+    }
+}
+
+fn slope_answer<S: Stage>(channel: &Channel<S>) -> Answer
+    ensures { λ r. ⌜ SlopeSays (held (now (channel .entry) .register .places .all)) r ⌝ }
+{
+    match channel.slope() {
+        Ok((least, greatest)) => Answer::Slope { least, greatest },
+        Err(refusal) => Answer::Refused { refusal },
+    }
+}
+
+fn value_answer<S: Stage>(channel: &Channel<S>, argument: i32) -> Answer
+    ensures { λ r. ⌜ ValueSays (held (now (channel .entry) .register .places .all)) argument r ⌝ }
+{
+    match channel.value(argument) {
+        Ok((least, greatest)) => Answer::Value { least, greatest },
+        Err(refusal) => Answer::Refused { refusal },
+    }
+}
 
 // Makes one call, a point by the number and the serial that it bears.
 fn perform<S: Stage>(channel: &mut Channel<S>, call: Call) -> Answer
@@ -25,8 +55,16 @@ fn perform<S: Stage>(channel: &mut Channel<S>, call: Call) -> Answer
             Ok(Point { number, serial }) => Answer::Opened { number, serial },
             Err(refusal) => Answer::Refused { refusal },
         },
-        Call::File { number, serial, reading } => match channel.file(Point { number, serial }, reading) {
-            Ok(filed) => Answer::Filed { serial: filed.serial, lower: filed.set.lower, upper: filed.set.upper },
+        Call::File {
+            number,
+            serial,
+            reading,
+        } => match channel.file(Point { number, serial }, reading) {
+            Ok(filed) => Answer::Filed {
+                serial: filed.serial,
+                lower: filed.set.lower,
+                upper: filed.set.upper,
+            },
             Err(refusal) => Answer::Refused { refusal },
         },
         Call::Abort { number, serial } => match channel.abort(Point { number, serial }) {
@@ -44,7 +82,9 @@ fn perform<S: Stage>(channel: &mut Channel<S>, call: Call) -> Answer
         Call::Verdict => verdict_answer(channel),
         Call::Slope => slope_answer(channel),
         Call::Value { argument } => value_answer(channel, argument),
-        Call::Tallies => Answer::Counted { tallies: channel.tallies() },
+        Call::Tallies => Answer::Counted {
+            tallies: channel.tallies(),
+        },
     }
 }
 

@@ -1,11 +1,11 @@
 -- How large a product is, and that it fits.
 use mathlib.Core.Path.{_≡_}
 use mathlib.Core.List.{[], _∷_}
-use Prim.Native.Nat.{ℕ, _≤_}
+use Prim.Native.Nat.{ℕ, _≤_, _^_}
 use native.Mathlib.Omega.{arith}
 use lib.IntN.{ℤ, pos, _*ℤ_, negℤ}
 use lib.Signed.{_≤ℤ_}
-use mir.Syntax.{w64}
+use mir.Syntax.{w32, w64}
 use mir.Val.{SFits, toZ, ofZ}
 use borrow.Author.Differences.{fits-in}
 use Rattle.std.proofs.shelf.Signed.{ints}
@@ -17,8 +17,8 @@ use Rattle.algebra.proofs.Normal.{var, con, _⊕_, _⊖_, _⊗_, adds-up}
 high : (a b A B : ℤ) → negℤ A ≤ℤ a → a ≤ℤ A → negℤ B ≤ℤ b → b ≤ℤ B → (a *ℤ b) ≤ℤ (A *ℤ B)
 high a b A B p q s t =
     adds-up (a ∷ b ∷ A ∷ B ∷ []) (con (pos 2)) (var 0 ⊗ var 1) (var 2 ⊗ var 3)
-      ((var 3 ⊕ var 1, var 0, var 2) ∷ (var 3 ⊖ var 1, con (pos 0) ⊖ var 2, var 0) ∷ []) tt (omega (arith, linear))
-      (omega (arith, linear), q, (omega (arith, linear), omega (arith, linear), tt))
+    ((var 3 ⊕ var 1, var 0, var 2) ∷ (var 3 ⊖ var 1, con (pos 0) ⊖ var 2, var 0) ∷ []) tt (omega (arith, linear))
+    (omega (arith, linear), q, (omega (arith, linear), omega (arith, linear), tt))
 
 -- the product of numbers within A and within B lies within A B
 pub within : (a b A B : ℤ) → negℤ A ≤ℤ a → a ≤ℤ A → negℤ B ≤ℤ b → b ≤ℤ B → (negℤ (A *ℤ B) ≤ℤ (a *ℤ b)) × ((a *ℤ b) ≤ℤ (A *ℤ B))
@@ -36,3 +36,17 @@ cross-cast n d f few =
     let a : toZ w64 (ofZ w64 n) ≡ n = omega (arith, ints) in
     let b : toZ w64 d ≡ pos d = omega (arith, ints) in
     λ i. a i *ℤ b i
+
+-- two numbers of 32 bits
+pub half-fits : (a b : ℤ) → SFits w32 a → SFits w32 b → SFits w64 (a *ℤ b)
+half-fits a b f g =
+    let most = pos (2 ^ 31) in
+    let h = within a b most most (omega (arith, ints)) (omega (arith, ints)) (omega (arith, ints)) (omega (arith, ints)) in
+    fits-in w64 (a *ℤ b) (omega (arith, linear))
+
+pub half-cast : (a b : ℤ) → SFits w32 a → SFits w32 b
+    → toZ w64 (ofZ w64 (toZ w32 (ofZ w32 a))) *ℤ toZ w64 (ofZ w64 (toZ w32 (ofZ w32 b))) ≡ a *ℤ b
+half-cast a b f g =
+    let p : toZ w64 (ofZ w64 (toZ w32 (ofZ w32 a))) ≡ a = omega (arith, ints) in
+    let q : toZ w64 (ofZ w64 (toZ w32 (ofZ w32 b))) ≡ b = omega (arith, ints) in
+    λ i. p i *ℤ q i

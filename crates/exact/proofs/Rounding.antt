@@ -15,11 +15,12 @@ use Rattle.exact.specs.Division.{floor, ceiling, RoundsDown, RoundsUp}
 
 -- a whole number is at most q exactly if its product with v is at most q v + r, for r from 0 to v - 1
 pub below : (w v q r : ℤ) → q *ℤ v +ℤ r ≡ w → pos 0 ≤ℤ r → r <ℤ v → RoundsDown w v q
-below w v q r e low high n =
-    ((λ under. by-ltZ q n
-        (λ past. absurd (omega (arith, linear, times-grows {a = q +ℤ pos 1} {b = n} v (omega (arith, linear)) (omega (arith, linear)), distrib-right q (pos 1) v, one-left v)))
-        (λ le. le)),
-     (λ le. omega (arith, linear, times-grows {a = n} {b = q} v (omega (arith, linear)) le)))
+below w v q r e low high n = (
+  (λ under. by-ltZ q n
+      (λ past. absurd (omega (arith, linear, times-grows {a = q +ℤ pos 1} {b = n} v (omega (arith, linear)) (omega (arith, linear)), distrib-right q (pos 1) v, one-left v)))
+      (λ le. le)),
+  (λ le. omega (arith, linear, times-grows {a = n} {b = q} v (omega (arith, linear)) le)),
+)
 
 -- rounding up is rounding down on the other side of 0
 pub mirrored : (w v q : ℤ) → RoundsDown (negℤ w) v (negℤ q) → RoundsUp w v q
@@ -33,12 +34,12 @@ above w v q r e low high = mirrored w v q (below (negℤ w) v (negℤ q) r (omeg
 pub rounds-down : (w v : ℤ) → pos 0 <ℤ v → RoundsDown w v (floor w (natAbs v))
 rounds-down (pos n) (pos v) h =
     below (pos n) (pos v) (pos (n / v)) (pos n -ℤ pos (n / v) *ℤ pos v) (omega (arith, linear))
-      (omega (arith, linear, product-is (pos (n / v)) (pos v), div-add-mod' n v))
-      (omega (arith, linear, product-is (pos (n / v)) (pos v), div-add-mod' n v, mod-lt n {m = v} (omega (arith, linear))))
+    (omega (arith, linear, product-is (pos (n / v)) (pos v), div-add-mod' n v))
+    (omega (arith, linear, product-is (pos (n / v)) (pos v), div-add-mod' n v, mod-lt n {m = v} (omega (arith, linear))))
 rounds-down (negsuc n) (pos v) h =
     below (negsuc n) (pos v) (negsuc (n / v)) (negsuc n -ℤ negsuc (n / v) *ℤ pos v) (omega (arith, linear))
-      (omega (arith, linear, product-is (negsuc (n / v)) (pos v), div-add-mod' n v, mod-lt n {m = v} (omega (arith, linear))))
-      (omega (arith, linear, product-is (negsuc (n / v)) (pos v), div-add-mod' n v))
+    (omega (arith, linear, product-is (negsuc (n / v)) (pos v), div-add-mod' n v, mod-lt n {m = v} (omega (arith, linear))))
+    (omega (arith, linear, product-is (negsuc (n / v)) (pos v), div-add-mod' n v))
 rounds-down w (negsuc v) h = absurd (omega (arith, linear))
 
 pub rounds-up : (w v : ℤ) → pos 0 <ℤ v → RoundsUp w v (ceiling w (natAbs v))

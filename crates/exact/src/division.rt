@@ -10,7 +10,11 @@ impl Divisor {
     pub fn new(value: i64) -> Option<Divisor>
         ensures { λ r. ⌜ BySome r (value ≤ℤ pos 0) (λ d. d .value ≡ value) ⌝ }
     {
-        if value > 0 { Some(Divisor { value }) } else { None }
+        if value > 0 {
+            Some(Divisor { value })
+        } else {
+            None
+        }
     }
 
     // The number divided, rounded down.
@@ -19,7 +23,11 @@ impl Divisor {
         ensures meaning { λ r. ⌜ RoundsDown number (self .value) r ⌝ }
     {
         let quotient = number / self.value;
-        if number % self.value < 0 { quotient - 1 } else { quotient }
+        if number % self.value < 0 {
+            quotient - 1
+        } else {
+            quotient
+        }
     }
 
     // The number divided, rounded up.
@@ -28,6 +36,10 @@ impl Divisor {
         ensures meaning { λ r. ⌜ RoundsUp number (self .value) r ⌝ }
     {
         let quotient = number / self.value;
-        if number % self.value > 0 { quotient + 1 } else { quotient }
+        if number % self.value > 0 {
+            quotient + 1
+        } else {
+            quotient
+        }
     }
 }

@@ -14,6 +14,19 @@ impl Fraction {
         if denominator < 1 || denominator > 40_000 {
             return None;
         }
-        Some(Fraction { numerator, denominator })
+        Some(Fraction {
+            numerator,
+            denominator,
+        })
+    }
+
+    // A whole number as a fraction.
+    pub fn whole(number: i32) -> Fraction
+        ensures { λ r. ⌜ (r .numerator ≡ number) × (r .denominator ≡ 1) ⌝ }
+    {
+        Fraction {
+            numerator: number as i64,
+            denominator: 1,
+        }
     }
 }

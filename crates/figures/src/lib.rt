@@ -33,8 +33,14 @@ pub fn stage_figures() -> StageFigures
     ensures relative { λ f. ⌜ f .relative ≡ Ok (pos 909, pos 1112) ⌝ }
     ensures chain { λ f. ⌜ f .chain ≡ Err (ReadingNotTaken 2 (pos 99999985)) ⌝ }
 {
-    let bounded = Bounded { absolute: 20, relative: 1_000 };
-    let proportional = Bounded { absolute: 0, relative: 100_000 };
+    let bounded = Bounded {
+        absolute: 20,
+        relative: 1_000,
+    };
+    let proportional = Bounded {
+        absolute: 0,
+        relative: 100_000,
+    };
     let chain = standard_chain();
     StageFigures {
         below: bounded.ask(-100),

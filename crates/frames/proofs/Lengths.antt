@@ -40,4 +40,4 @@ same-decides low k = decides-or (eqb k 5) (eqb (getD lengths k 0) (fixedLength k
 pub of-kind : (low k : ℕ) → k < 16 → (k ≡ 5 → ⊥) → getD lengths k 0 ≡ fixedLength k low
 of-kind low k h other =
     ⊎-elim (λ five. absurd (other five)) (λ e. e)
-      (decides-below-and (same-kind low) (Same-kind low) (below (same-kind low)) (same-decides low) refl (λ _. refl) 16 .0 refl k h)
+    (decides-below-and (same-kind low) (Same-kind low) (below (same-kind low)) (same-decides low) refl (λ _. refl) 16 .0 refl k h)

@@ -39,27 +39,27 @@ pub read-as-written : ReadAsWritten
 read-as-written (load x) rest h =
     let n = bits 16 x in
     enough 2 (n / 256 ∷ n % 256 ∷ rest) (frame (load (argument (n / 256 ∷ n % 256 ∷ rest))) 3) (omega arith)
-      ∙ ap (λ m. frame (load (signed 16 m)) 3) (joined16 n) ∙ ap (λ z. frame (load z) 3) (signed-bits 16 x refl h)
+    ∙ ap (λ m. frame (load (signed 16 m)) 3) (joined16 n) ∙ ap (λ z. frame (load z) 3) (signed-bits 16 x refl h)
 read-as-written (reading r) rest h =
     let n = bits 28 r in
     let small = bits-below 28 r refl h in
     by-head 2 (n / 2 ^ 24) (32 + n / 2 ^ 24) (low24 n ++ rest) (omega arith) (omega arith)
-      ∙ enough 3 (low24 n ++ rest) (frame (reading (signed 28 (number (n / 2 ^ 24) (low24 n)))) 4) (omega arith)
-      ∙ ap (λ m. frame (reading (signed 28 m)) 4) (joined28 n) ∙ ap (λ z. frame (reading z) 4) (signed-bits 28 r refl h)
+    ∙ enough 3 (low24 n ++ rest) (frame (reading (signed 28 (number (n / 2 ^ 24) (low24 n)))) 4) (omega arith)
+    ∙ ap (λ m. frame (reading (signed 28 m)) 4) (joined28 n) ∙ ap (λ z. frame (reading z) 4) (signed-bits 28 r refl h)
 read-as-written (abort reason) rest h =
     by-head 3 (length reason) (48 + length reason) (reason ++ rest) h (omega arith)
-      ∙ enough (length reason) (reason ++ rest) (frame (abort (take (length reason) (reason ++ rest))) (1 + length reason)) (omega (arith, length-append reason rest))
-      ∙ (λ i. frame (abort (take-append-seam reason rest i)) (one-add (length reason) i))
+    ∙ enough (length reason) (reason ++ rest) (frame (abort (take (length reason) (reason ++ rest))) (1 + length reason)) (omega (arith, length-append reason rest))
+    ∙ (λ i. frame (abort (take-append-seam reason rest i)) (one-add (length reason) i))
 read-as-written (withdraw serial) rest h =
     by-head 4 (serial / 2 ^ 24) (64 + serial / 2 ^ 24) (low24 serial ++ rest) (omega arith) (omega arith)
-      ∙ enough 3 (low24 serial ++ rest) (frame (withdraw (number (serial / 2 ^ 24) (low24 serial))) 4) (omega arith)
-      ∙ ap (λ m. frame (withdraw m) 4) (joined28 serial)
+    ∙ enough 3 (low24 serial ++ rest) (frame (withdraw (number (serial / 2 ^ 24) (low24 serial))) 4) (omega arith)
+    ∙ ap (λ m. frame (withdraw m) 4) (joined28 serial)
 read-as-written verdict rest h = refl
 read-as-written slope rest h = refl
 read-as-written (value x) rest h =
     let n = bits 16 x in
     enough 2 (n / 256 ∷ n % 256 ∷ rest) (frame (value (argument (n / 256 ∷ n % 256 ∷ rest))) 3) (omega arith)
-      ∙ ap (λ m. frame (value (signed 16 m)) 3) (joined16 n) ∙ ap (λ z. frame (value z) 3) (signed-bits 16 x refl h)
+    ∙ ap (λ m. frame (value (signed 16 m)) 3) (joined16 n) ∙ ap (λ z. frame (value z) 3) (signed-bits 16 x refl h)
 read-as-written tallies rest h = refl
 read-as-written clear rest h = refl
 
@@ -110,10 +110,11 @@ reading-held low head rest e l a h =
 
 abort-held : (low head : ℕ) (rest : List ℕ) → head ≡ 48 + low → low < 16 → low ≤ length rest → Holds (head ∷ rest) (frame (abort (take low rest)) (1 + low))
 abort-held low head rest e l h =
-    let n : length (take low rest) ≡ low = length-take-le low rest h in
-    (omega arith,
-     ap (λ m. take m (head ∷ rest)) (one-add low) ∙ ap (λ (b : ℕ). b ∷ take low rest) (e ∙ ap (λ m. 48 + m) (sym n)),
-     omega arith)
+    let n : length (take low rest) ≡ low = length-take-le low rest h in (
+      omega arith,
+      ap (λ m. take m (head ∷ rest)) (one-add low) ∙ ap (λ (b : ℕ). b ∷ take low rest) (e ∙ ap (λ m. 48 + m) (sym n)),
+      omega arith,
+    )
 
 -- a frame of one byte
 one-held : (head k : ℕ) (rest : List ℕ) → head ≡ k → take 1 (head ∷ rest) ≡ k ∷ []
@@ -123,37 +124,43 @@ held : (tape : List ℕ) → Bytes tape → Holds tape (said tape)
 held [] a = tt
 held (head ∷ rest) a =
     by-test P (eqb kind 1)
-      (λ e. by-test P (ltb (length rest) 2) (λ _. tt) (λ long. by-test P (eqb low 0)
-        (λ none. let x = with-argument 16 long (is 1 0 e none) in (x .0, x .1, refl))
-        (λ _. tt)))
+    (λ e. by-test P (ltb (length rest) 2) (λ _. tt) (λ long. by-test P (eqb low 0)
+    (λ none. let x = with-argument 16 long (is 1 0 e none) in (x .0, x .1, refl))
+    (λ _. tt)))
     (λ _. by-test P (eqb kind 2)
-      (λ e. by-test P (ltb (length rest) 3) (λ _. tt) (λ long. reading-held low head rest (of 2 e) l (a .1) (ltb-false (length rest) 3 long)))
+    (λ e. by-test P (ltb (length rest) 3) (λ _. tt) (λ long. reading-held low head rest (of 2 e) l (a .1) (ltb-false (length rest) 3 long)))
     (λ _. by-test P (eqb kind 3)
-      (λ e. by-test P (ltb (length rest) low) (λ _. tt) (λ long. abort-held low head rest (of 3 e) l (ltb-false (length rest) low long)))
+    (λ e. by-test P (ltb (length rest) low) (λ _. tt) (λ long. abort-held low head rest (of 3 e) l (ltb-false (length rest) low long)))
     (λ _. by-test P (eqb kind 4)
-      (λ e. by-test P (ltb (length rest) 3) (λ _. tt) (λ long. let n = number-held 4 low head rest (of 4 e) l (a .1) (ltb-false (length rest) 3 long) in (n .0, n .1, refl)))
+    (λ e. by-test P (ltb (length rest) 3) (λ _. tt) (λ long. let n = number-held 4 low head rest (of 4 e) l (a .1) (ltb-false (length rest) 3 long) in (n .0, n .1, refl)))
     (λ _. by-test P (eqb kind 5)
-      (λ e. by-test P (eqb low 1) (λ code. (tt, one-held head 81 rest (is 5 1 e code), refl))
-        (λ _. by-test P (eqb low 2) (λ code. (tt, one-held head 82 rest (is 5 2 e code), refl))
-        (λ _. by-test P (eqb low 3) (λ code. by-test P (ltb (length rest) 2) (λ _. tt) (λ long. let x = with-argument 83 long (is 5 3 e code) in (x .0, x .1, refl)))
-        (λ _. by-test P (eqb low 4) (λ code. (tt, one-held head 84 rest (is 5 4 e code), refl))
-        (λ _. tt)))))
+    (λ e. by-test P (eqb low 1) (λ code. (tt, one-held head 81 rest (is 5 1 e code), refl))
+    (λ _. by-test P (eqb low 2) (λ code. (tt, one-held head 82 rest (is 5 2 e code), refl))
+    (λ _. by-test P (eqb low 3) (λ code. by-test P (ltb (length rest) 2) (λ _. tt) (λ long. let x = with-argument 83 long (is 5 3 e code) in (x .0, x .1, refl)))
+    (λ _. by-test P (eqb low 4) (λ code. (tt, one-held head 84 rest (is 5 4 e code), refl))
+    (λ _. tt)))))
     (λ _. by-test P (eqb kind 6)
-      (λ e. by-test P (eqb low 0) (λ none. (tt, one-held head 96 rest (is 6 0 e none), refl)) (λ _. tt))
+    (λ e. by-test P (eqb low 0) (λ none. (tt, one-held head 96 rest (is 6 0 e none), refl)) (λ _. tt))
     (λ _. tt))))))
   where
     kind : ℕ
     kind = head / 16
+
     low : ℕ
     low = head % 16
+
     P : Said → Type 0
     P = Holds (head ∷ rest)
+
     l : low < 16
     l = omega arith
+
     of : (k : ℕ) → eqb kind k ≡ true → head ≡ 16 * k + low
     of k e = let f = eqb-true kind k e in omega arith
+
     is : (k c : ℕ) → eqb kind k ≡ true → eqb low c ≡ true → head ≡ 16 * k + c
     is k c e f = let g = eqb-true kind k e in let h = eqb-true low c f in omega arith
+
     with-argument : (k : ℕ) → ltb (length rest) 2 ≡ false → head ≡ k → Within 16 (argument rest) × (take 3 (head ∷ rest) ≡ withArgument k (bits 16 (argument rest)))
     with-argument k long e = let x = argument-held head rest (a .1) (ltb-false (length rest) 2 long) in (x .0, x .1 ∙ ap (λ h. withArgument h (bits 16 (argument rest))) e)
 

@@ -26,29 +26,31 @@ module _ (s : List Measurement) where
 
   -- the greatest low slope is possible where it passes no high slope
   pub low-reached : PairsMeet s → (j i : Measurement) (low : SteepestLow s j i)
-    → ((k m : Measurement) → Has s k → Has s m → (h : Rises k m) → lowSlope j i (low .rises) ≼ highSlope k m h)
-    → (l : Line) × Admissible s l × (slope l ≈ lowSlope j i (low .rises))
+      → ((k m : Measurement) → Has s k → Has s m → (h : Rises k m) → lowSlope j i (low .rises) ≼ highSlope k m h)
+      → (l : Line) × Admissible s l × (slope l ≈ lowSlope j i (low .rises))
   low-reached meet j i low under =
       slope-reached s meet (lowSlope j i (low .rises)) (λ k m atK atM h. (low .steepest k m atK atM h, under k m atK atM h))
 
   pub consistent-steep : PairsMeet s → (j i k m : Measurement) (low : SteepestLow s j i) (high : GentlestHigh s k m)
-    → lowSlope j i (low .rises) ≼ highSlope k m (high .rises) → Consistent s
+      → lowSlope j i (low .rises) ≼ highSlope k m (high .rises) → Consistent s
   consistent-steep meet j i k m low high le =
       let (l, ok, _) = low-reached meet j i low (λ a b atA atB h.
-            ≼-trans (lowSlope j i (low .rises)) (highSlope k m (high .rises)) (highSlope a b h) le (high .gentlest a b atA atB h)) in
+      ≼-trans (lowSlope j i (low .rises)) (highSlope k m (high .rises)) (highSlope a b h) le (high .gentlest a b atA atB h)) in
       (l, ok)
 
   pub steep-conflict : (j i k m : Measurement) (low : SteepestLow s j i) (high : GentlestHigh s k m)
-    → highSlope k m (high .rises) ≺ lowSlope j i (low .rises) → Conflict s
+      → highSlope k m (high .rises) ≺ lowSlope j i (low .rises) → Conflict s
   steep-conflict j i k m low high = slopes-conflict j i k m (low .first) (low .second) (high .first) (high .second) (low .rises) (high .rises)
 
   pub least-slope : Consistent s → (j i : Measurement) (low : SteepestLow s j i) → Least slope s (lowSlope j i (low .rises))
-  least-slope c j i low =
-      (low-reached (consistent-pairs-meet s c) j i low (λ k m atK atM h. low-under-high j i k m (low .first) (low .second) atK atM (low .rises) h c),
-       λ l ok. slope-between s l ok j i (low .first) (low .second) (low .rises) .0)
+  least-slope c j i low = (
+    low-reached (consistent-pairs-meet s c) j i low (λ k m atK atM h. low-under-high j i k m (low .first) (low .second) atK atM (low .rises) h c),
+    λ l ok. slope-between s l ok j i (low .first) (low .second) (low .rises) .0,
+  )
 
   pub greatest-slope : Consistent s → (k m : Measurement) (high : GentlestHigh s k m) → Greatest slope s (highSlope k m (high .rises))
-  greatest-slope c k m high =
-      (slope-reached s (consistent-pairs-meet s c) (highSlope k m (high .rises)) (λ j i atJ atI h.
-         (low-under-high j i k m atJ atI (high .first) (high .second) h (high .rises) c, high .gentlest j i atJ atI h)),
-       λ l ok. slope-between s l ok k m (high .first) (high .second) (high .rises) .1)
+  greatest-slope c k m high = (
+    slope-reached s (consistent-pairs-meet s c) (highSlope k m (high .rises)) (λ j i atJ atI h.
+        (low-under-high j i k m atJ atI (high .first) (high .second) h (high .rises) c, high .gentlest j i atJ atI h)),
+    λ l ok. slope-between s l ok k m (high .first) (high .second) (high .rises) .1,
+  )

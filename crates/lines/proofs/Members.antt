@@ -51,17 +51,17 @@ module _ {X : Type 0} (P : X → Type 0) (f : (x : X) → P x → Rational) (sam
   best [] = inl (λ x h. has-none x h)
   best (x ∷ s) = ⊎-elim
       (λ none. ⊎-elim
-        (λ h. inr (newcomer x s h (λ y at k. absurd (none y at k))))
-        (λ no-x. inl (each-of-more (λ y. P y → ⊥) x s no-x none))
-        (told x))
+      (λ h. inr (newcomer x s h (λ y at k. absurd (none y at k))))
+      (λ no-x. inl (each-of-more (λ y. P y → ⊥) x s no-x none))
+      (told x))
       (λ old. let (c, at, k, under) = old in
-        let stays : ((h : P x) → f x h ≼ f c k) → None (x ∷ s) ⊎ Best (x ∷ s) =
-              λ le. inr (c, has-next x c s at, k, each-of-more (λ y. (h : P y) → f y h ≼ f c k) x s le under) in
-        ⊎-elim
-          (λ h. ⊎-elim
-            (λ le. stays (λ h′. ≼-trans (f x h′) (f x h) (f c k) (same x h′ h) le))
-            (λ le. inr (newcomer x s h (λ y atY kY. ≼-trans (f y kY) (f c k) (f x h) (under y atY kY) le)))
-            (≼-total (f x h) (f c k)))
-          (λ no-x. stays (λ h. absurd (no-x h)))
-          (told x))
+      let stays : ((h : P x) → f x h ≼ f c k) → None (x ∷ s) ⊎ Best (x ∷ s) =
+      λ le. inr (c, has-next x c s at, k, each-of-more (λ y. (h : P y) → f y h ≼ f c k) x s le under) in
+      ⊎-elim
+      (λ h. ⊎-elim
+      (λ le. stays (λ h′. ≼-trans (f x h′) (f x h) (f c k) (same x h′ h) le))
+      (λ le. inr (newcomer x s h (λ y atY kY. ≼-trans (f y kY) (f c k) (f x h) (under y atY kY) le)))
+      (≼-total (f x h) (f c k)))
+      (λ no-x. stays (λ h. absurd (no-x h)))
+      (told x))
       (best s)

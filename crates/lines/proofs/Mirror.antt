@@ -20,13 +20,13 @@ module _ (l : Line) (m : Measurement) where
   mirror-meets h =
       let (low, high) = meets-out (l .p) (l .d) (l .above) (l .q) m h in
       meets-in (negℤ (l .p)) (l .d) (l .above) (negℤ (l .q)) (mirrored m)
-        (omega (arith, linear, turned (l .p) (l .q) (m .argument), neg-left (m .upper) (l .d))) (omega (arith, linear, turned (l .p) (l .q) (m .argument), neg-left (m .lower) (l .d)))
+      (omega (arith, linear, turned (l .p) (l .q) (m .argument), neg-left (m .upper) (l .d))) (omega (arith, linear, turned (l .p) (l .q) (m .argument), neg-left (m .lower) (l .d)))
 
   meets-mirror : Meets l (mirrored m) → Meets (mirror l) m
   meets-mirror h =
       let (low, high) = meets-out (l .p) (l .d) (l .above) (l .q) (mirrored m) h in
       meets-in (negℤ (l .p)) (l .d) (l .above) (negℤ (l .q)) m
-        (omega (arith, linear, turned (l .p) (l .q) (m .argument), neg-left (m .lower) (l .d))) (omega (arith, linear, turned (l .p) (l .q) (m .argument), neg-left (m .upper) (l .d)))
+      (omega (arith, linear, turned (l .p) (l .q) (m .argument), neg-left (m .lower) (l .d))) (omega (arith, linear, turned (l .p) (l .q) (m .argument), neg-left (m .upper) (l .d)))
 
 module _ (s : List Measurement) where
   pub mirror-admissible : (l : Line) → Admissible s l → Admissible (map mirrored s) (mirror l)
@@ -41,16 +41,18 @@ module _ (s : List Measurement) where
   -- f is a quantity that the mirrored line has the opposite of
   module _ (f : Line → Rational) (odd : (l : Line) → f (mirror l) ≡ opposite (f l)) (b : Rational) where
     pub least-from-mirror : Greatest f (map mirrored s) (opposite b) → Least f s b
-    least-from-mirror ((l, ok, e), most) =
-        ((mirror l, admissible-mirror l ok, subst (λ r. r ≈ b) (sym (odd l)) (omega (arith, linear, neg-left (f l .num) (b .den), neg-left (b .num) (f l .den)))),
-         λ k okK. let le = subst (λ r. r ≼ opposite b) (odd k) (most (mirror k) (mirror-admissible k okK)) in
-           omega (arith, linear, neg-left (f k .num) (b .den), neg-left (b .num) (f k .den)))
+    least-from-mirror ((l, ok, e), most) = (
+      (mirror l, admissible-mirror l ok, subst (λ r. r ≈ b) (sym (odd l)) (omega (arith, linear, neg-left (f l .num) (b .den), neg-left (b .num) (f l .den)))),
+      λ k okK. let le = subst (λ r. r ≼ opposite b) (odd k) (most (mirror k) (mirror-admissible k okK)) in
+          omega (arith, linear, neg-left (f k .num) (b .den), neg-left (b .num) (f k .den)),
+    )
 
     pub greatest-in-mirror : Least f s b → Greatest f (map mirrored s) (opposite b)
-    greatest-in-mirror ((l, ok, e), least) =
-        ((mirror l, mirror-admissible l ok, subst (λ r. r ≈ opposite b) (sym (odd l)) (omega (arith, linear, neg-left (f l .num) (b .den), neg-left (b .num) (f l .den)))),
-         λ k okK. let le = subst (λ r. b ≼ r) (odd k) (least (mirror k) (admissible-mirror k okK)) in
-           omega (arith, linear, neg-left (f k .num) (b .den), neg-left (b .num) (f k .den)))
+    greatest-in-mirror ((l, ok, e), least) = (
+      (mirror l, mirror-admissible l ok, subst (λ r. r ≈ opposite b) (sym (odd l)) (omega (arith, linear, neg-left (f l .num) (b .den), neg-left (b .num) (f l .den)))),
+      λ k okK. let le = subst (λ r. b ≼ r) (odd k) (least (mirror k) (admissible-mirror k okK)) in
+          omega (arith, linear, neg-left (f k .num) (b .den), neg-left (b .num) (f k .den)),
+    )
 
 pub slope-odd : (l : Line) → slope (mirror l) ≡ opposite (slope l)
 slope-odd l = refl

@@ -28,15 +28,15 @@ module _ (j i k m : Measurement) (ji : Rises j i) (km : Rises k m) where
   before kj f g =
       let xj = var 0 in let xi = var 1 in let xk = var 2 in let xm = var 3 in let uj = var 4 in let li = var 5 in let lk = var 6 in let um = var 7 in
       adds-up variables (xi ⊖ xk) ((li ⊖ uj) ⊗ (xm ⊖ xk)) ((um ⊖ lk) ⊗ (xi ⊖ xj))
-        ((xi ⊖ xj, lk ⊗ (xi ⊖ xm) ⊕ li ⊗ (xm ⊖ xk), um ⊗ (xi ⊖ xk)) ∷ (xm ⊖ xk, lk ⊗ (xi ⊖ xj) ⊕ li ⊗ (xj ⊖ xk), uj ⊗ (xi ⊖ xk)) ∷ [])
-        tt (omega (arith, linear)) (omega (arith, linear), f, (omega (arith, linear), g, tt))
+      ((xi ⊖ xj, lk ⊗ (xi ⊖ xm) ⊕ li ⊗ (xm ⊖ xk), um ⊗ (xi ⊖ xk)) ∷ (xm ⊖ xk, lk ⊗ (xi ⊖ xj) ⊕ li ⊗ (xj ⊖ xk), uj ⊗ (xi ⊖ xk)) ∷ [])
+      tt (omega (arith, linear)) (omega (arith, linear), f, (omega (arith, linear), g, tt))
 
   pub after : i .argument <ℤ m .argument → HighChord j i m → HighChord j k m → Keeps
   after im f g =
       let xj = var 0 in let xi = var 1 in let xk = var 2 in let xm = var 3 in let uj = var 4 in let li = var 5 in let lk = var 6 in let um = var 7 in
       adds-up variables (xm ⊖ xj) ((li ⊖ uj) ⊗ (xm ⊖ xk)) ((um ⊖ lk) ⊗ (xi ⊖ xj))
-        ((xm ⊖ xk, li ⊗ (xm ⊖ xj), uj ⊗ (xm ⊖ xi) ⊕ um ⊗ (xi ⊖ xj)) ∷ (xi ⊖ xj, lk ⊗ (xm ⊖ xj), uj ⊗ (xm ⊖ xk) ⊕ um ⊗ (xk ⊖ xj)) ∷ [])
-        tt (omega (arith, linear)) (omega (arith, linear), f, (omega (arith, linear), g, tt))
+      ((xm ⊖ xk, li ⊗ (xm ⊖ xj), uj ⊗ (xm ⊖ xi) ⊕ um ⊗ (xi ⊖ xj)) ∷ (xi ⊖ xj, lk ⊗ (xm ⊖ xj), uj ⊗ (xm ⊖ xk) ⊕ um ⊗ (xk ⊖ xj)) ∷ [])
+      tt (omega (arith, linear)) (omega (arith, linear), f, (omega (arith, linear), g, tt))
 
   -- where the low slope is over the high slope and one triple of the four keeps its chord, the other conflicts
   module _ (over : highSlope k m km ≺ lowSlope j i ji) where

@@ -37,10 +37,11 @@ module _ (p d : ℤ) (above : pos 0 <ℤ d) where
   meets-apart q i j h k = simp ring (omega (arith, linear, simp ring at (meets-out q i h .0), simp ring at (meets-out q j k .1)))
 
   pub slope-possible : (s : List Measurement) → ((i j : Measurement) → Has s i → Has s j → Leaves p d i j) ↔ ((q : ℤ) × Admissible s (drawn q))
-  slope-possible s =
-      ((λ h. ⊎-elim
+  slope-possible s = (
+    (λ h. ⊎-elim
         (λ none. (pos 0, λ m at. absurd (none m at tt)))
         (λ top. let (j, at, _, most) = top in
-          (needed j, λ m atM. meets-at j m (cancel (pos 1) (omega (arith, linear)) (most m atM tt)) (h j m at atM)))
+        (needed j, λ m atM. meets-at j m (cancel (pos 1) (omega (arith, linear)) (most m atM tt)) (h j m at atM)))
         (best (λ (m : Measurement). Unit {0}) (λ m t. whole (needed m)) (λ m h k. ≤ℤ-refl _) (λ m. inl tt) s)),
-       (λ h i j atI atJ. meets-apart (h .0) i j (h .1 i atI) (h .1 j atJ)))
+    (λ h i j atI atJ. meets-apart (h .0) i j (h .1 i atI) (h .1 j atJ)),
+  )

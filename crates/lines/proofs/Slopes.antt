@@ -43,11 +43,16 @@ module _ (s : List Measurement) where
   pub slope-reached : PairsMeet s → (b : Rational) → Between s b → (l : Line) × Admissible s l × (slope l ≈ b)
   slope-reached meet b between =
       let (q, ok) = slope-possible (b .num) (b .den) (b .above) s .0 (λ i j atI atJ.
-            by-ltZ (j .argument) (i .argument)
-              (λ rises. between j i atJ atI rises .0)
-              (λ le. by-ltZ (i .argument) (j .argument)
-                (λ rises. leaves-under-high (b .num) (b .den) i j (between i j atI atJ rises .1))
-                (λ ge. let e : i .argument ≡ j .argument = omega (arith, linear) in
-                  omega (arith, linear, level (b .num) i j e, zero-*ℤ (b .den),
-                    times-grows {a = i .lower -ℤ j .upper} {b = pos 0} (b .den) (omega (arith, linear, b .above)) (omega (arith, linear, meet i j atI atJ e)))))) in
+      by-ltZ (j .argument) (i .argument)
+      (λ rises. between j i atJ atI rises .0)
+      (λ le. by-ltZ (i .argument) (j .argument)
+      (λ rises. leaves-under-high (b .num) (b .den) i j (between i j atI atJ rises .1))
+      (λ ge. let e : i .argument ≡ j .argument = omega (arith, linear) in
+      omega (
+        arith,
+        linear,
+        level (b .num) i j e,
+        zero-*ℤ (b .den),
+        times-grows {a = i .lower -ℤ j .upper} {b = pos 0} (b .den) (omega (arith, linear, b .above)) (omega (arith, linear, meet i j atI atJ e)),
+      )))) in
       (drawn (b .num) (b .den) (b .above) q, ok, refl {a = b .num *ℤ b .den})

@@ -25,11 +25,20 @@ module _ (s : List Measurement) where
   pub steepest-low : OneArgument s ⊎ ((j : Measurement) × (i : Measurement) × SteepestLow s j i)
   steepest-low = ⊎-elim
       (λ none. inl (λ a b atA atB.
-        by-ltZ (a .argument) (b .argument) (λ h. absurd (none a atA (onward a b atB h)))
-          (λ le. by-ltZ (b .argument) (a .argument) (λ h. absurd (none b atB (onward b a atA h))) (λ ge. omega (arith, linear)))))
+      by-ltZ (a .argument) (b .argument) (λ h. absurd (none a atA (onward a b atB h)))
+      (λ le. by-ltZ (b .argument) (a .argument) (λ h. absurd (none b atB (onward b a atA h))) (λ ge. omega (arith, linear)))))
       (λ top. let (j, at, (i, atI, h, _), most) = top in
-        inr (j, i, record { first = at; second = atI; rises = h; steepest = λ a b atA atB k.
-          let r = onward a b atB k in
-          ≼-trans (lowSlope a b k) (lowSlope a (r .0) (r .2)) (lowSlope j i h) (r .3 b atB k) (most a atA r) }))
+      inr (
+        j,
+        i,
+        record {
+          first = at;
+          second = atI;
+          rises = h;
+          steepest = λ a b atA atB k.
+              let r = onward a b atB k in
+              ≼-trans (lowSlope a b k) (lowSlope a (r .0) (r .2)) (lowSlope j i h) (r .3 b atB k) (most a atA r);
+        },
+      ))
       (best Onward (λ j r. lowSlope j (r .0) (r .2)) (λ j r t. t .3 (r .0) (r .1) (r .2))
-        (λ j. ⊎-elim (λ last. inr (λ r. last (r .0) (r .1) (r .2))) inl (onward-or-last j)) s)
+      (λ j. ⊎-elim (λ last. inr (λ r. last (r .0) (r .1) (r .2))) inl (onward-or-last j)) s)

@@ -31,7 +31,7 @@ turned-meets : (x k : ℤ) (l : Line) (m : Measurement) → m .argument ≡ x �
 turned-meets x k l m e h =
     let (low, high) = meets-out (l .p) (l .d) (l .above) (l .q) m h in
     let kept : (l .p +ℤ k) *ℤ m .argument +ℤ (l .q -ℤ k *ℤ x) ≡ l .p *ℤ m .argument +ℤ l .q =
-          omega (arith, linear, distrib-right (l .p) k (m .argument), ap (λ z. k *ℤ z) e) in
+    omega (arith, linear, distrib-right (l .p) k (m .argument), ap (λ z. k *ℤ z) e) in
     meets-in (l .p +ℤ k) (l .d) (l .above) (l .q -ℤ k *ℤ x) m (omega (arith, linear)) (omega (arith, linear))
 
 -- f is a quantity that grows by t / d when the line turns by k / d about x

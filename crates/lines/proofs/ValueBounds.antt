@@ -22,9 +22,9 @@ module _ (s : List Measurement) (x : ℤ) (b : Rational) where
   value-under : LeastHighValue s x b → (l : Line) → Admissible s l → valueAt l x ≼ b
   value-under high l ok = ⊎-elim
       (λ r. let (m, at, e, le) = r in
-        ≼-trans (valueAt l x) (whole (m .upper)) b (omega (arith, linear, ok m at .1, ap (λ z. (l .p *ℤ z +ℤ l .q) *ℤ pos 1) e)) le)
+      ≼-trans (valueAt l x) (whole (m .upper)) b (omega (arith, linear, ok m at .1, ap (λ z. (l .p *ℤ z +ℤ l .q) *ℤ pos 1) e)) le)
       (λ r. let (j, i, atJ, atI, h, le) = r in
-        ≼-trans (valueAt l x) (highValue j i h x) b (value-under-pair l j i h x (ok j atJ) (ok i atI)) le)
+      ≼-trans (valueAt l x) (highValue j i h x) b (value-under-pair l j i h x (ok j atJ) (ok i atI)) le)
       (high .reached)
 
   pub value-greatest : Consistent s → LeastHighValue s x b → Greatest (λ l. valueAt l x) s b
@@ -43,19 +43,20 @@ module _ (j i : Measurement) (h : Rises j i) (x : ℤ) where
 
 module _ (s : List Measurement) (x : ℤ) (b : Rational) where
   mirrored-values : GreatestLowValue s x b → LeastHighValue (map mirrored s) x (opposite b)
-  mirrored-values low = record
-    { here = each-of-map (λ m. m .argument ≡ x → opposite b ≼ whole (m .upper)) mirrored s (λ m at e.
-        omega (arith, linear, low .here m at e, neg-left (b .num) (pos 1), neg-left (m .lower) (b .den)))
-    ; pairs = λ j i atJ atI.
+  mirrored-values low = record {
+    here = each-of-map (λ m. m .argument ≡ x → opposite b ≼ whole (m .upper)) mirrored s (λ m at e.
+        omega (arith, linear, low .here m at e, neg-left (b .num) (pos 1), neg-left (m .lower) (b .den)));
+    pairs = λ j i atJ atI.
         each-of-map (λ j. (i : Measurement) → Has (map mirrored s) i → (h : Rises j i) → opposite b ≼ highValue j i h x) mirrored s (λ j atJ.
-          each-of-map (λ i. (h : Rises (mirrored j) i) → opposite b ≼ highValue (mirrored j) i h x) mirrored s (λ i atI h.
-            mirrored-over j i h x b (low .pairs j i atJ atI h))) j atJ i atI
-    ; reached = ⊎-elim
+        each-of-map (λ i. (h : Rises (mirrored j) i) → opposite b ≼ highValue (mirrored j) i h x) mirrored s (λ i atI h.
+        mirrored-over j i h x b (low .pairs j i atJ atI h))) j atJ i atI;
+    reached = ⊎-elim
         (λ r. let (m, at, e, le) = r in
-          inl (mirrored m, has-map mirrored s m at, e, omega (arith, linear, neg-left (b .num) (pos 1), neg-left (m .lower) (b .den))))
+        inl (mirrored m, has-map mirrored s m at, e, omega (arith, linear, neg-left (b .num) (pos 1), neg-left (m .lower) (b .den))))
         (λ r. let (j, i, atJ, atI, h, le) = r in
-          inr (mirrored j, mirrored i, has-map mirrored s j atJ, has-map mirrored s i atI, h, mirrored-under j i h x b le))
-        (low .reached) }
+        inr (mirrored j, mirrored i, has-map mirrored s j atJ, has-map mirrored s i atI, h, mirrored-under j i h x b le))
+        (low .reached);
+  }
 
   pub value-least : Consistent s → GreatestLowValue s x b → Least (λ l. valueAt l x) s b
   value-least c low = least-from-mirror s (λ l. valueAt l x) (value-odd x) b (value-greatest (map mirrored s) x (opposite b) (mirror-consistent s c) (mirrored-values low))

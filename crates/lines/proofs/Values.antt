@@ -47,6 +47,7 @@ module _ (m : Measurement) (w : ℤ) where
     where
       down : ((m .lower *ℤ d) *ℤ negℤ w) ≤ℤ (y *ℤ negℤ w) → (y *ℤ w) ≤ℤ ((m .lower *ℤ w) *ℤ d)
       down h = simp ring (omega (arith, linear, simp ring at h))
+
       up : (y *ℤ w) ≤ℤ ((m .upper *ℤ d) *ℤ w) → (y *ℤ w) ≤ℤ ((m .upper *ℤ w) *ℤ d)
       up h = simp ring (omega (arith, linear, simp ring at h))
 
@@ -90,5 +91,11 @@ pub value-under-pair : (l : Line) (j i : Measurement) (h : Rises j i) (x : ℤ) 
 value-under-pair l j i h x metJ metI =
     let (lowJ, highJ) = meets-out (l .p) (l .d) (l .above) (l .q) j metJ in
     let (lowI, highI) = meets-out (l .p) (l .d) (l .above) (l .q) i metI in
-    omega (arith, linear, weighed (l .p) (l .q) (j .argument) (i .argument) x, distrib-right (most j (i .argument -ℤ x)) (most i (x -ℤ j .argument)) (l .d),
-      most-over j (i .argument -ℤ x) (l .p *ℤ j .argument +ℤ l .q) (l .d) lowJ highJ, most-over i (x -ℤ j .argument) (l .p *ℤ i .argument +ℤ l .q) (l .d) lowI highI)
+    omega (
+      arith,
+      linear,
+      weighed (l .p) (l .q) (j .argument) (i .argument) x,
+      distrib-right (most j (i .argument -ℤ x)) (most i (x -ℤ j .argument)) (l .d),
+      most-over j (i .argument -ℤ x) (l .p *ℤ j .argument +ℤ l .q) (l .d) lowJ highJ,
+      most-over i (x -ℤ j .argument) (l .p *ℤ i .argument +ℤ l .q) (l .d) lowI highI,
+    )

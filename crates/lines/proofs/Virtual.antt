@@ -52,15 +52,14 @@ module _ (n e : ℤ) (j i : Measurement) (h : Rises j i) (x : ℤ) (le : (n *ℤ
       simp ring (omega (arith, linear, simp ring at f))
 
   chord-between : j .argument ≤ℤ x → x ≤ℤ i .argument
-    → (n *ℤ (i .argument -ℤ j .argument)) ≤ℤ ((j .upper *ℤ e) *ℤ (i .argument -ℤ x) +ℤ (i .upper *ℤ e) *ℤ (x -ℤ j .argument))
+      → (n *ℤ (i .argument -ℤ j .argument)) ≤ℤ ((j .upper *ℤ e) *ℤ (i .argument -ℤ x) +ℤ (i .upper *ℤ e) *ℤ (x -ℤ j .argument))
   chord-between jx xi =
       let f = subst (λ z. (n *ℤ (i .argument -ℤ j .argument)) ≤ℤ (z *ℤ e)) (high-between j i h x jx xi) le in
       simp ring (omega (arith, linear, simp ring at f))
 
 module _ (s : List Measurement) (x : ℤ) (b : Rational) (l : Line) (ok : Admissible s l) (below : valueAt l x ≼ b)
-  (here : (m : Measurement) → Has s m → m .argument ≡ x → b ≼ whole (m .upper))
-  (pairs : (j i : Measurement) → Has s j → Has s i → (h : Rises j i) → b ≼ highValue j i h x) where
-
+    (here : (m : Measurement) → Has s m → m .argument ≡ x → b ≼ whole (m .upper))
+    (pairs : (j i : Measurement) → Has s j → Has s i → (h : Rises j i) → b ≼ highValue j i h x) where
   abbrev n : ℤ
   n = b .num
 
@@ -113,14 +112,15 @@ module _ (s : List Measurement) (x : ℤ) (b : Rational) (l : Line) (ok : Admiss
   pub value-reached : (k : Line) × Admissible s k × (valueAt k x ≈ b)
   value-reached =
       let (k, met) = chords-consistent sheet (λ a c atA atC. meet (member a atA) (member c atC))
-            (λ a m c atA atM atC am mc. (low (member a atA) (member c atC) (member m atM) am mc, high (member m atM) (member a atA) (member c atC) am mc)) in
+      (λ a m c atA atM atC am mc. (low (member a atA) (member c atC) (member m atM) am mc, high (member m atM) (member a atA) (member c atC) am mc)) in
       let above : pos 0 <ℤ (k .d *ℤ e) = product-positive (k .above) (b .above) in
       let (lowX, highX) = meets-out (k .p) (k .d) (k .above) (k .q) (point x n) (met (point x n) (has-first (point x n) (map (scaled e (b .above)) s))) in
-      let through : k .p *ℤ x +ℤ k .q ≡ n *ℤ k .d = omega (arith, linear) in
-      (record { p = k .p; q = k .q; d = k .d *ℤ e; above = above },
-       (λ m at.
-         let m′ = scaled e (b .above) m in
-         let (lowM, highM) = meets-out (k .p) (k .d) (k .above) (k .q) m′ (met m′ (has-next (point x n) m′ (map (scaled e (b .above)) s) (has-map (scaled e (b .above)) s m at))) in
-         meets-in (k .p) (k .d *ℤ e) above (k .q) m
-           (omega (arith, linear, exchange (m .lower) e (k .d), assoc (m .lower) (k .d) e)) (omega (arith, linear, exchange (m .upper) e (k .d), assoc (m .upper) (k .d) e))),
-       ap (λ z. z *ℤ e) through ∙ assoc n (k .d) e)
+      let through : k .p *ℤ x +ℤ k .q ≡ n *ℤ k .d = omega (arith, linear) in (
+        record { p = k .p; q = k .q; d = k .d *ℤ e; above = above },
+        (λ m at.
+            let m′ = scaled e (b .above) m in
+            let (lowM, highM) = meets-out (k .p) (k .d) (k .above) (k .q) m′ (met m′ (has-next (point x n) m′ (map (scaled e (b .above)) s) (has-map (scaled e (b .above)) s m at))) in
+            meets-in (k .p) (k .d *ℤ e) above (k .q) m
+            (omega (arith, linear, exchange (m .lower) e (k .d), assoc (m .lower) (k .d) e)) (omega (arith, linear, exchange (m .upper) e (k .d), assoc (m .upper) (k .d) e))),
+        ap (λ z. z *ℤ e) through ∙ assoc n (k .d) e,
+      )

@@ -32,11 +32,11 @@ pub record LeastHighValue (s : List Measurement) (x : ℤ) (b : Rational) : Type
   pub here : (m : Measurement) → Has s m → m .argument ≡ x → b ≼ whole (m .upper)
   pub pairs : (j i : Measurement) → Has s j → Has s i → (h : Rises j i) → b ≼ highValue j i h x
   pub reached : ((m : Measurement) × Has s m × (m .argument ≡ x) × (whole (m .upper) ≼ b))
-    ⊎ ((j : Measurement) × (i : Measurement) × Has s j × Has s i × (h : Rises j i) × (highValue j i h x ≼ b))
+      ⊎ ((j : Measurement) × (i : Measurement) × Has s j × Has s i × (h : Rises j i) × (highValue j i h x ≼ b))
 
 -- b is the greatest of the low values of all pairs, and of the lower ends at x
 pub record GreatestLowValue (s : List Measurement) (x : ℤ) (b : Rational) : Type 0 where
   pub here : (m : Measurement) → Has s m → m .argument ≡ x → whole (m .lower) ≼ b
   pub pairs : (j i : Measurement) → Has s j → Has s i → (h : Rises j i) → lowValue j i h x ≼ b
   pub reached : ((m : Measurement) × Has s m × (m .argument ≡ x) × (b ≼ whole (m .lower)))
-    ⊎ ((j : Measurement) × (i : Measurement) × Has s j × Has s i × (h : Rises j i) × (b ≼ lowValue j i h x))
+      ⊎ ((j : Measurement) × (i : Measurement) × Has s j × Has s i × (h : Rises j i) × (b ≼ lowValue j i h x))

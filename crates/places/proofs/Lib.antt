@@ -1,2 +1,5 @@
 pub mod Found
 pub mod Counted
+pub mod Members
+pub mod Turned
+pub mod Rows

@@ -5,8 +5,16 @@ use exact::set::UncertaintySet;
 #[derive(Clone, Copy)]
 pub enum Place {
     Free,
-    Open { serial: u32, argument: Argument },
-    Held { serial: u32, argument: Argument, reading: i32, set: UncertaintySet },
+    Open {
+        serial: u32,
+        argument: Argument,
+    },
+    Held {
+        serial: u32,
+        argument: Argument,
+        reading: i32,
+        set: UncertaintySet,
+    },
 }
 
 // All places of a register.

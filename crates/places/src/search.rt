@@ -25,7 +25,12 @@ impl Place {
         ensures { λ _. ⌜ now (self .exit) ≡ held-with reading set (now (self .entry)) ⌝ }
     {
         if let Place::Open { serial, argument } = *self {
-            *self = Place::Held { serial, argument, reading, set };
+            *self = Place::Held {
+                serial,
+                argument,
+                reading,
+                set,
+            };
         }
     }
 

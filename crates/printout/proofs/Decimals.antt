@@ -51,7 +51,8 @@ own = numerals-by-fold _ (search needs) readOn (search needs)
 
 pub reads-back : ReadsBack
 reads-back n h =
-    let e = sym (as-written n h) in
-    (subst (λ ds. allDigits ds ≡ true) e (digits-decimal own n h),
-     ap (readOn 0) (as-written n h) ∙ value-decimal own n h,
-     (λ some. subst (λ (ds : List ℕ). 48 < getD ds 0 0) e (first-decimal n some h)))
+    let e = sym (as-written n h) in (
+      subst (λ ds. allDigits ds ≡ true) e (digits-decimal own n h),
+      ap (readOn 0) (as-written n h) ∙ value-decimal own n h,
+      (λ some. subst (λ (ds : List ℕ). 48 < getD ds 0 0) e (first-decimal n some h)),
+    )

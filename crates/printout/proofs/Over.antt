@@ -24,13 +24,13 @@ over-next at a b xs h =
     let long : length front ≡ at + length a = length-append (take at xs) a ∙ ap (λ n. n + length a) (length-take-le at xs h) in
     let before : take (at + length a) (over at a xs) ≡ front = ap (take (at + length a)) whole ∙ take-at front rest (at + length a) long in
     let after : drop ((at + length a) + length b) (over at a xs) ≡ drop (at + length (a ++ b)) xs =
-          (λ i. drop (sym long i + length b) (whole i)) ∙ drop-append-add front rest (length b) ∙ drop-drop (length b) (at + length a) xs ∙ ap (λ n. drop n xs) (omega (arith, length-append a b)) in
+    (λ i. drop (sym long i + length b) (whole i)) ∙ drop-append-add front rest (length b) ∙ drop-drop (length b) (at + length a) xs ∙ ap (λ n. drop n xs) (omega (arith, length-append a b)) in
     (λ i. before i ++ (b ++ after i)) ∙ append-assoc (take at xs) a (b ++ drop (at + length (a ++ b)) xs) ∙ ap (λ t. take at xs ++ t) (sym (append-assoc a b (drop (at + length (a ++ b)) xs)))
 
 pub length-over : (at : ℕ) (a xs : List ℕ) → at + length a ≤ length xs → length (over at a xs) ≡ length xs
 length-over at a xs h =
     length-append (take at xs) (a ++ drop (at + length a) xs)
-      ∙ omega (arith, length-take-le at xs, length-append a (drop (at + length a) xs), length-drop (at + length a) xs)
+    ∙ omega (arith, length-take-le at xs, length-append a (drop (at + length a) xs), length-drop (at + length a) xs)
 
 -- one part, and then the next after it
 pub next : (at p q : ℕ) (a b xs ys zs : List ℕ) → at ≤ length xs → p ≡ at + length a → ys ≡ over at a xs → q ≡ p + length b → zs ≡ over p b ys

@@ -9,7 +9,9 @@ use exact::fraction::Fraction;
 fn thousandths_down(fraction: Fraction) -> i64
     ensures { λ r. ⌜ r ≡ roundedDown fraction ⌝ }
 {
-    let divisor = Divisor { value: fraction.denominator as i64 };
+    let divisor = Divisor {
+        value: fraction.denominator as i64,
+    };
     divisor.floor(1000 * fraction.numerator)
 }
 
@@ -17,7 +19,9 @@ fn thousandths_down(fraction: Fraction) -> i64
 fn thousandths_up(fraction: Fraction) -> i64
     ensures { λ r. ⌜ r ≡ roundedUp fraction ⌝ }
 {
-    let divisor = Divisor { value: fraction.denominator as i64 };
+    let divisor = Divisor {
+        value: fraction.denominator as i64,
+    };
     divisor.ceiling(1000 * fraction.numerator)
 }
 
@@ -26,13 +30,19 @@ impl<'a> Line<'a> {
     pub fn slope(least: Fraction, greatest: Fraction) -> Line<'a>
         ensures { λ r. ⌜ r ≡ Slope (roundedDown least) (roundedUp greatest) ⌝ }
     {
-        Line::Slope { least: thousandths_down(least), greatest: thousandths_up(greatest) }
+        Line::Slope {
+            least: thousandths_down(least),
+            greatest: thousandths_up(greatest),
+        }
     }
 
     // The line of the least and the greatest value, rounded outwards.
-    pub fn value(least: Fraction, greatest: Fraction) -> Line<'a>
-        ensures { λ r. ⌜ r ≡ Value (roundedDown least) (roundedUp greatest) ⌝ }
+    pub fn value(lowest: Fraction, highest: Fraction) -> Line<'a>
+        ensures { λ r. ⌜ r ≡ Value (roundedDown lowest) (roundedUp highest) ⌝ }
     {
-        Line::Value { least: thousandths_down(least), greatest: thousandths_up(greatest) }
+        Line::Value {
+            least: thousandths_down(lowest),
+            greatest: thousandths_up(highest),
+        }
     }
 }

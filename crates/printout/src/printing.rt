@@ -23,22 +23,65 @@ fn put_body(buffer: &mut [u8], line: &Line) -> usize
     ensures room { λ r. ⌜ r < 80 ⌝ }
 {
     match *line {
-        Line::Load { serial, argument } => put_words(buffer, b"load", &[serial as i64, argument as i64]),
-        Line::Set { serial, lower, upper } => put_words(buffer, b"set", &[serial as i64, lower as i64, upper as i64]),
-        Line::Spoiled { serial, number, place, value } => {
-            put_words(buffer, b"spoiled", &[serial as i64, number as i64, place as i64, value as i64])
+        Line::Load { serial, argument } => put_words(
+            buffer,
+            b"load",
+            &[serial as i64, argument as i64],
+        ),
+        Line::Set {
+            serial,
+            lower,
+            upper,
+        } => put_words(buffer, b"set", &[serial as i64, lower as i64, upper as i64]),
+        Line::Spoiled {
+            serial,
+            number,
+            place,
+            value,
+        } => {
+            put_words(
+                buffer,
+                b"spoiled",
+                &[serial as i64, number as i64, place as i64, value as i64],
+            )
         }
         Line::Aborted { serial, reason } => put_aborted(buffer, serial, reason),
         Line::Withdrawn { serial } => put_words(buffer, b"withdrawn", &[serial as i64]),
         Line::Possible => put_words(buffer, b"line", &[]),
         Line::Conflicting { conflict } => match conflict.third {
-            None => put_words(buffer, b"conflict", &[conflict.first as i64, conflict.second as i64]),
-            Some(third) => put_words(buffer, b"conflict", &[conflict.first as i64, conflict.second as i64, third as i64]),
+            None => put_words(
+                buffer,
+                b"conflict",
+                &[conflict.first as i64, conflict.second as i64],
+            ),
+            Some(third) => put_words(
+                buffer,
+                b"conflict",
+                &[conflict.first as i64, conflict.second as i64, third as i64],
+            ),
         },
         Line::Slope { least, greatest } => put_words(buffer, b"slope", &[least, greatest]),
         Line::Value { least, greatest } => put_words(buffer, b"value", &[least, greatest]),
-        Line::Tallies { opened, filed, spoiled, aborted, open, held } => {
-            put_words(buffer, b"tallies", &[opened as i64, filed as i64, spoiled as i64, aborted as i64, open as i64, held as i64])
+        Line::Tallies {
+            opened,
+            filed,
+            spoiled,
+            aborted,
+            open,
+            held,
+        } => {
+            put_words(
+                buffer,
+                b"tallies",
+                &[
+                    opened as i64,
+                    filed as i64,
+                    spoiled as i64,
+                    aborted as i64,
+                    open as i64,
+                    held as i64,
+                ],
+            )
         }
         Line::Cleared => put_words(buffer, b"cleared", &[]),
         Line::Refused { number } => put_words(buffer, b"refused", &[number as i64]),

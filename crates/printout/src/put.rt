@@ -9,7 +9,7 @@ ghost use Rattle.printout.specs.Words.{over, fields, shown, remark};
 
 // Each function writes into a buffer from a place on, and tells the place after what it wrote.
 
-pub fn put_byte(buffer: &mut [u8], at: usize, byte: u8) -> usize
+pub(crate) fn put_byte(buffer: &mut [u8], at: usize, byte: u8) -> usize
     requires { ⌜ at < length (now buffer) ⌝ }
     ensures place { λ r. ⌜ r ≡ at + 1 ⌝ }
     ensures bytes { λ _. ⌜ now (buffer .exit) ≡ over at (byte ∷ []) (now (buffer .entry)) ⌝ }
@@ -18,7 +18,7 @@ pub fn put_byte(buffer: &mut [u8], at: usize, byte: u8) -> usize
     at + 1
 }
 
-pub fn put_text(buffer: &mut [u8], at: usize, text: &[u8]) -> usize
+pub(crate) fn put_text(buffer: &mut [u8], at: usize, text: &[u8]) -> usize
     requires { ⌜ at + length (now text) ≤ length (now buffer) ⌝ }
     ensures place { λ r. ⌜ r ≡ at + length (now (text .entry)) ⌝ }
     ensures bytes { λ _. ⌜ now (buffer .exit) ≡ over at (now (text .entry)) (now (buffer .entry)) ⌝ }
@@ -29,7 +29,7 @@ pub fn put_text(buffer: &mut [u8], at: usize, text: &[u8]) -> usize
 }
 
 // A number in decimal.
-pub fn put_decimal(buffer: &mut [u8], at: usize, number: u64) -> usize
+pub(crate) fn put_decimal(buffer: &mut [u8], at: usize, number: u64) -> usize
     requires { ⌜ at + length (decimal number) ≤ length (now buffer) ⌝ }
     ensures place { λ r. ⌜ r ≡ at + length (decimal number) ⌝ }
     ensures bytes { λ _. ⌜ now (buffer .exit) ≡ over at (decimal number) (now (buffer .entry)) ⌝ }
@@ -42,7 +42,7 @@ pub fn put_decimal(buffer: &mut [u8], at: usize, number: u64) -> usize
 }
 
 // The same, with a sign before a negative one.
-pub fn put_signed(buffer: &mut [u8], at: usize, number: i64) -> usize
+pub(crate) fn put_signed(buffer: &mut [u8], at: usize, number: i64) -> usize
     requires { ⌜ at + length (signed number) ≤ length (now buffer) ⌝ }
     ensures place { λ r. ⌜ r ≡ at + length (signed number) ⌝ }
     ensures bytes { λ _. ⌜ now (buffer .exit) ≡ over at (signed number) (now (buffer .entry)) ⌝ }
@@ -55,7 +55,7 @@ pub fn put_signed(buffer: &mut [u8], at: usize, number: i64) -> usize
 }
 
 // A blank, and a number.
-pub fn put_field(buffer: &mut [u8], at: usize, number: i64) -> usize
+pub(crate) fn put_field(buffer: &mut [u8], at: usize, number: i64) -> usize
     requires { ⌜ at + length (32 ∷ signed number) ≤ length (now buffer) ⌝ }
     ensures place { λ r. ⌜ r ≡ at + length (32 ∷ signed number) ⌝ }
     ensures bytes { λ _. ⌜ now (buffer .exit) ≡ over at (32 ∷ signed number) (now (buffer .entry)) ⌝ }
@@ -65,7 +65,7 @@ pub fn put_field(buffer: &mut [u8], at: usize, number: i64) -> usize
 }
 
 // A word at the start of a line, and each number after a blank.
-pub fn put_words(buffer: &mut [u8], word: &[u8], numbers: &[i64]) -> usize
+pub(crate) fn put_words(buffer: &mut [u8], word: &[u8], numbers: &[i64]) -> usize
     requires { ⌜ 80 ≤ length (now buffer) ⌝ ∗ ⌜ length (now word ++ fields (now numbers)) < 80 ⌝ }
     ensures room { λ r. ⌜ r < 80 ⌝ }
     ensures place { λ r. ⌜ r ≡ length (now (word .entry) ++ fields (now (numbers .entry))) ⌝ }
@@ -79,7 +79,7 @@ pub fn put_words(buffer: &mut [u8], word: &[u8], numbers: &[i64]) -> usize
 }
 
 // A byte as it is printed.
-pub fn shown_as(byte: u8) -> u8
+pub(crate) fn shown_as(byte: u8) -> u8
     ensures { λ r. ⌜ r ≡ shown byte ⌝ }
 {
     match byte {
@@ -89,7 +89,7 @@ pub fn shown_as(byte: u8) -> u8
 }
 
 // A reason after a blank; nothing of an empty one.
-pub fn put_remark(buffer: &mut [u8], at: usize, reason: &[u8]) -> usize
+pub(crate) fn put_remark(buffer: &mut [u8], at: usize, reason: &[u8]) -> usize
     requires { ⌜ at + length (remark (now reason)) ≤ length (now buffer) ⌝ }
     ensures place { λ r. ⌜ r ≡ at + length (remark (now (reason .entry))) ⌝ }
     ensures bytes { λ _. ⌜ now (buffer .exit) ≡ over at (remark (now (reason .entry))) (now (buffer .entry)) ⌝ }
@@ -105,7 +105,7 @@ pub fn put_remark(buffer: &mut [u8], at: usize, reason: &[u8]) -> usize
 }
 
 // The word for an aborted point, its serial and the reason.
-pub fn put_aborted(buffer: &mut [u8], serial: u32, reason: &[u8]) -> usize
+pub(crate) fn put_aborted(buffer: &mut [u8], serial: u32, reason: &[u8]) -> usize
     requires { ⌜ 80 ≤ length (now buffer) ⌝ ∗ ⌜ length (now reason) ≤ 15 ⌝ }
     ensures room { λ r. ⌜ r < 80 ⌝ }
     ensures place { λ r. ⌜ r ≡ length (codes "aborted" ++ fields (pos serial ∷ []) ++ remark (now (reason .entry))) ⌝ }

@@ -13,7 +13,6 @@ pub record Rational : Type 0 where
   pub above : pos 0 <ℤ den
 
 infix 50 _≼_ _≺_ _≈_
-
 -- at most
 abbrev pub _≼_ : Rational → Rational → Type 0
 a ≼ b = (a .num *ℤ b .den) ≤ℤ (b .num *ℤ a .den)

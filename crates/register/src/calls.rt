@@ -22,7 +22,9 @@ impl Register {
         ensures { λ r. ⌜ page r ≡ blank ⌝ }
     {
         Register {
-            places: Places { all: [Place::Free; 64] },
+            places: Places {
+                all: [Place::Free; 64],
+            },
             last: 0,
             opened: 0,
             filed: 0,
@@ -50,7 +52,12 @@ impl Register {
     }
 
     // Ends an open point by a reading: its place holds the reading's set, or is freed where the reading is not taken.
-    pub fn file<S: Stage>(&mut self, stage: &S, serial: u32, reading: i32) -> Result<UncertaintySet, Refusal>
+    pub fn file<S: Stage>(
+        &mut self,
+        stage: &S,
+        serial: u32,
+        reading: i32,
+    ) -> Result<UncertaintySet, Refusal>
         ensures page { λ _. ⌜ page (now (self .exit)) ≡ files-next (meaning (now (stage .entry))) (page (now (self .entry))) serial reading ⌝ }
         ensures told { λ r. ⌜ ends r ≡ files-told (meaning (now (stage .entry))) (page (now (self .entry))) serial reading ⌝ }
     {
@@ -100,7 +107,9 @@ impl Register {
     pub fn clear(&mut self)
         ensures { λ _. ⌜ page (now (self .exit)) ≡ cleared (page (now (self .entry)) .last) ⌝ }
     {
-        self.places = Places { all: [Place::Free; 64] };
+        self.places = Places {
+            all: [Place::Free; 64],
+        };
         self.opened = 0;
         self.filed = 0;
         self.spoiled = 0;
@@ -122,9 +131,9 @@ impl Register {
     }
 
     // The places, for the questions about lines.
-    pub fn places(&self) -> &[Place]
-        ensures { λ r. ⌜ now r ≡ now (self .entry) .places .all ⌝ }
+    pub fn places(&self) -> &Places
+        ensures { λ r. ⌜ now r ≡ now (self .entry) .places ⌝ }
     {
-        &self.places.all
+        &self.places
     }
 }

@@ -20,7 +20,10 @@ fn show(rt: &impl Print, chain: &Chain<Step, Bounded>, line: &str) -> io::Result
         Err(refusal) => {
             let number = refusal.number();
             match refusal {
-                Refusal::ReadingNotTaken { place, value } => println!(rt, "{reading}: refused {number} at place {place}, which was handed {value}"),
+                Refusal::ReadingNotTaken { place, value } => println!(
+                    rt,
+                    "{reading}: refused {number} at place {place}, which was handed {value}"
+                ),
                 _ => println!(rt, "{reading}: refused {number}"),
             }
         }

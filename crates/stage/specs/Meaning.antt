@@ -48,10 +48,10 @@ inLimits z = leZ least-end z && leZ z greatest-end
 -- a single stage that takes exactly the readings whose ends both lie within the limits
 abbrev pub single : (ℤ → ℤ) → (ℤ → ℤ) → Meaning
 single l u = record {
-    count = 1;
-    taken = λ r. inLimits (l r) && inLimits (u r);
-    lower = l;
-    upper = u;
-    place = λ r. 1;
-    value = λ r. r;
-  }
+  count = 1;
+  taken = λ r. inLimits (l r) && inLimits (u r);
+  lower = l;
+  upper = u;
+  place = λ r. 1;
+  value = λ r. r;
+}

@@ -13,7 +13,10 @@ fn pass_on(refusal: Refusal, above: u8) -> Refusal
     ensures { λ r. ⌜ ((place : ℕ) (value : ℤ) → refusal ≡ ReadingNotTaken place value → r ≡ ReadingNotTaken (told (place + above)) value) ⌝ }
 {
     match refusal {
-        Refusal::ReadingNotTaken { place, value } => Refusal::ReadingNotTaken { place: place.saturating_add(above), value },
+        Refusal::ReadingNotTaken { place, value } => Refusal::ReadingNotTaken {
+            place: place.saturating_add(above),
+            value,
+        },
         other => other,
     }
 }

@@ -7,7 +7,10 @@ pub fn limited(lower: i64, upper: i64, reading: i32) -> Result<(i32, i32), Refus
     ensures { λ a. ⌜ a ≡ answer (single (λ _. lower) (λ _. upper)) reading ⌝ }
 {
     if lower < -100_000_000 || lower > 100_000_000 || upper < -100_000_000 || upper > 100_000_000 {
-        return Err(Refusal::ReadingNotTaken { place: 1, value: reading });
+        return Err(Refusal::ReadingNotTaken {
+            place: 1,
+            value: reading,
+        });
     }
     Ok((lower as i32, upper as i32))
 }

@@ -46,8 +46,14 @@ mod tests {
     #[test]
     fn settings_out_of_limits() -> Result<(), Fail> {
         check(Bounded::new(1_000_000, 100_000).is_ok())?;
-        check(Bounded::new(1_000_001, 100_001).err() == Some(Refusal::SettingOutOfLimits { position: 1 }))?;
-        check(Bounded::new(1_000_000, 100_001).err() == Some(Refusal::SettingOutOfLimits { position: 2 }))?;
+        check(
+            Bounded::new(1_000_001, 100_001).err()
+                == Some(Refusal::SettingOutOfLimits { position: 1 }),
+        )?;
+        check(
+            Bounded::new(1_000_000, 100_001).err()
+                == Some(Refusal::SettingOutOfLimits { position: 2 }),
+        )?;
         check(Step::new(0).err() == Some(Refusal::SettingOutOfLimits { position: 1 }))?;
         check(Step::new(1_001).err() == Some(Refusal::SettingOutOfLimits { position: 1 }))?;
         check(Step::new(1_000).is_ok())
@@ -77,10 +83,22 @@ mod tests {
     fn places_count_from_the_reading() -> Result<(), Fail> {
         let step = Step::new(1)?;
         let band = Band::new();
-        let below = Chain { upper: Chain { upper: step, lower: step }, lower: Chain { upper: step, lower: band } };
+        let below = Chain {
+            upper: Chain {
+                upper: step,
+                lower: step,
+            },
+            lower: Chain {
+                upper: step,
+                lower: band,
+            },
+        };
         check_eq(below.count(), 4)?;
         check_eq(below.ask(1), not_taken(4, -2))?;
-        let above = Chain { upper: band, lower: below };
+        let above = Chain {
+            upper: band,
+            lower: below,
+        };
         check_eq(above.ask(0), not_taken(5, -3))?;
         check_eq(above.ask(1), not_taken(1, 1))
     }
@@ -97,9 +115,21 @@ mod tests {
     fn a_reading_belongs_to_the_last_row_not_above_it() -> Result<(), Fail> {
         let mut band = Band::new();
         let rows = [
-            Row { first: -5, lower: -100, upper: -50 },
-            Row { first: 0, lower: -10, upper: 10 },
-            Row { first: 7, lower: -10, upper: 30 },
+            Row {
+                first: -5,
+                lower: -100,
+                upper: -50,
+            },
+            Row {
+                first: 0,
+                lower: -10,
+                upper: 10,
+            },
+            Row {
+                first: 7,
+                lower: -10,
+                upper: 30,
+            },
         ];
         check_eq(band.set(&rows, 9), Ok(()))?;
         check_eq(band.ask(-6), not_taken(1, -6))?;
@@ -115,10 +145,26 @@ mod tests {
     #[test]
     fn the_smallest_position_at_fault_is_told() -> Result<(), Fail> {
         let mut band = Band::new();
-        let row = Row { first: 0, lower: 0, upper: 1 };
-        let wrong = Row { first: 1, lower: 2, upper: 1 };
-        let falling = Row { first: 1, lower: -1, upper: 1 };
-        let far = Row { first: 1, lower: 0, upper: 100_000_001 };
+        let row = Row {
+            first: 0,
+            lower: 0,
+            upper: 1,
+        };
+        let wrong = Row {
+            first: 1,
+            lower: 2,
+            upper: 1,
+        };
+        let falling = Row {
+            first: 1,
+            lower: -1,
+            upper: 1,
+        };
+        let far = Row {
+            first: 1,
+            lower: 0,
+            upper: 100_000_001,
+        };
         check_eq(band.set(&[], 0), at_fault(0))?;
         check_eq(band.set(&[wrong; 17], 0), at_fault(0))?;
         check_eq(band.set(&[wrong, row], 0), at_fault(1))?;

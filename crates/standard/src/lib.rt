@@ -9,5 +9,11 @@ pub fn standard_chain() -> Chain<Step, Bounded>
     ensures absolute { λ c. ⌜ c .lower .absolute ≡ 20 ⌝ }
     ensures relative { λ c. ⌜ c .lower .relative ≡ 1000 ⌝ }
 {
-    Chain { upper: Step { size: 10 }, lower: Bounded { absolute: 20, relative: 1_000 } }
+    Chain {
+        upper: Step { size: 10 },
+        lower: Bounded {
+            absolute: 20,
+            relative: 1_000,
+        },
+    }
 }

@@ -29,7 +29,11 @@ fn brief<'a>(head: u8, rest: &'a [u8], position: u32) -> Result<(Frame<'a>, &'a 
 }
 
 // An abort, with as many reason bytes as its first byte says.
-fn with_reason<'a>(head: u8, rest: &'a [u8], position: u32) -> Result<(Frame<'a>, &'a [u8]), Refusal>
+fn with_reason<'a>(
+    head: u8,
+    rest: &'a [u8],
+    position: u32,
+) -> Result<(Frame<'a>, &'a [u8]), Refusal>
     requires { ⌜ head / 16 ≡ 3 ⌝ }
     ensures { λ r. ⌜ Decoded position (head ∷ now (rest .entry)) r ⌝ }
 {
@@ -37,7 +41,12 @@ fn with_reason<'a>(head: u8, rest: &'a [u8], position: u32) -> Result<(Frame<'a>
     if rest.len() < length {
         return Err(Refusal::FrameCutShort { position });
     }
-    Ok((Frame::Abort { reason: &rest[0..length] }, &rest[length..]))
+    Ok((
+        Frame::Abort {
+            reason: &rest[0..length],
+        },
+        &rest[length..],
+    ))
 }
 
 // A load, or the question for a value: a first byte, and an argument.
@@ -91,7 +100,11 @@ impl<'a> Reader<'a> {
         ensures tape { λ r. ⌜ now (r .tape) ≡ take 4096 (now (tape .entry)) ⌝ }
         ensures position { λ r. ⌜ r .position ≡ 0 ⌝ }
     {
-        let tape = if tape.len() > 4096 { &tape[0..4096] } else { tape };
+        let tape = if tape.len() > 4096 {
+            &tape[0..4096]
+        } else {
+            tape
+        };
         Reader { tape, position: 0 }
     }
 

@@ -22,8 +22,8 @@ loop-row-again c =
     let more = folded-more (λ (found next : Row). cond (leZ (next .first) r) next found) zeros rows i zeros (c .loop-row-test .taken) in
     let step = λ (b : Bool). cond b (row rows i) (rowAt (take i rows) r) in
     simp toZ-ofZ (elim (c .if-row-reading .came) [
-      then-row-reading w ↦ let t = simp toZ-ofZ at (w .if-row-reading .taken) in w .found-is ∙ sym (more ∙ ap step t)
-    | else-row-reading w ↦ let t = simp toZ-ofZ at (w .if-row-reading .left) in w .found-is ∙ inv ∙ sym (more ∙ ap step t)
+      | then-row-reading w ↦ let t = simp toZ-ofZ at (w .if-row-reading .taken) in w .found-is ∙ sym (more ∙ ap step t)
+      | else-row-reading w ↦ let t = simp toZ-ofZ at (w .if-row-reading .left) in w .found-is ∙ inv ∙ sym (more ∙ ap step t)
     ])
 
 pub returns : need.returns

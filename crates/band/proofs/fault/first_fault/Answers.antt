@@ -18,24 +18,24 @@ pub returns-then-not-in-order : need.returns-then-not-in-order
 returns-then-not-in-order c =
     let rows = c .args .rows .now in let i = c .loop-i .i in
     first-row rows (c .args .last) i (count-fine (length rows) (omega arith) (omega arith)) (c .loop-i-test .taken) (c .loop-i .inv)
-      (bad-itself (inOrder (row rows i)) (follows (row rows (i - 1)) (row rows i)) i (sym (c .if-not-in-order .ensures tt)))
+    (bad-itself (inOrder (row rows i)) (follows (row rows (i - 1)) (row rows i)) i (sym (c .if-not-in-order .ensures tt)))
 
 pub returns-then-not-follows : need.returns-then-not-follows
 returns-then-not-follows c =
     let rows = c .args .rows .now in let i = c .loop-i .i in
     first-row rows (c .args .last) i (count-fine (length rows) (omega arith) (omega arith)) (c .loop-i-test .taken) (c .loop-i .inv)
-      (bad-pair (inOrder (row rows i)) (follows (row rows (i - 1)) (row rows i)) i (c .if-i-gt0 .taken) (sym (c .if-not-follows .ensures tt)))
+    (bad-pair (inOrder (row rows i)) (follows (row rows (i - 1)) (row rows i)) i (c .if-i-gt0 .taken) (sym (c .if-not-follows .ensures tt)))
 
 pub loop-i-again : need.loop-i-again
 loop-i-again c =
     let rows = c .args .rows .now in let i = c .loop-i .i in
     let fine : (0 < i → follows (row rows (i - 1)) (row rows i) ≡ true) → rowFault rows i ≡ false =
-          λ f. fine-pair (inOrder (row rows i)) (follows (row rows (i - 1)) (row rows i)) i (sym (c .if-not-in-order .ensures tt)) f in
+    λ f. fine-pair (inOrder (row rows i)) (follows (row rows (i - 1)) (row rows i)) i (sym (c .if-not-in-order .ensures tt)) f in
     below-more (λ k. rowFault rows k ≡ false) i (c .loop-i .inv)
-      (elim (c .else-i-gt0 .came) [
-        else-i-gt0·by·then-i-gt0·else-not-follows w ↦ fine (λ lt. sym (w .if-not-follows .ensures tt))
+    (elim (c .else-i-gt0 .came) [
+      | else-i-gt0·by·then-i-gt0·else-not-follows w ↦ fine (λ lt. sym (w .if-not-follows .ensures tt))
       | else-i-gt0·by·else-i-gt0 w ↦ fine (λ lt. absurd (omega (arith, w .if-i-gt0 .left)))
-      ])
+    ])
 
 pub returns-then-last-rows : need.returns-then-last-rows
 returns-then-last-rows c =

@@ -23,7 +23,7 @@ returns-then-buffer-lt80 c =
       answer = ap (λ b. cond b (Err LineNotWritten) (Ok (length (text line)))) e;
       bytes = ap (λ b. cond b xs (text line ++ drop (length (text line)) xs)) e;
       room = tt;
-      numbers = reads-back
+      numbers = reads-back;
     }
 
 pub returns-then-reason-gt15 : need.returns-then-reason-gt15
@@ -36,7 +36,7 @@ returns-then-reason-gt15 c =
       answer = ap (λ b. cond b (Err LineNotWritten) (Ok (length (text line)))) e;
       bytes = ap (λ b. cond b xs (text line ++ drop (length (text line)) xs)) e;
       room = tt;
-      numbers = reads-back
+      numbers = reads-back;
     }
 
 pub put-byte-requires : need.put-byte-requires
@@ -56,5 +56,5 @@ returns c =
       answer = ap Ok (both .0 ∙ zero) ∙ ap (λ b. cond b (Err LineNotWritten) (Ok (length (text line)))) e;
       bytes = both .1 ∙ ap (λ n. text line ++ drop n xs) zero ∙ ap (λ b. cond b xs (text line ++ drop (length (text line)) xs)) e;
       room = omega (arith, front .room, end .place);
-      numbers = reads-back
+      numbers = reads-back;
     }

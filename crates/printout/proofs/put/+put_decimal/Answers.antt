@@ -18,7 +18,7 @@ returns-then-number-lt10 t c =
     let e = sym (below-ten (c .args .number) (c .if-number-lt10 .taken)) in
     record {
       place = c .put-byte .ensures .place ∙ ap (λ ds. c .args .at + length ds) e;
-      bytes = c .put-byte .ensures .bytes ∙ ap (λ ds. over (c .args .at) ds (c .args .buffer .now)) e
+      bytes = c .put-byte .ensures .bytes ∙ ap (λ ds. over (c .args .at) ds (c .args .buffer .now)) e;
     }
 
 pub put-decimal-last-requires : need.put-decimal-last-requires
@@ -42,7 +42,7 @@ returns t c =
     record {
       place = omega (arith, last .place, front .place);
       bytes = last .bytes
-        ∙ (λ i. over (front .place i) ((48 + n % 10) ∷ []) (front .bytes i))
-        ∙ over-next at (decimal (n / 10)) ((48 + n % 10) ∷ []) xs (omega (arith, c .pre))
-        ∙ ap (λ ds. over at ds xs) (sym (from-ten n (c .if-number-lt10 .left) (c .fits .number .fits)))
+          ∙ (λ i. over (front .place i) ((48 + n % 10) ∷ []) (front .bytes i))
+          ∙ over-next at (decimal (n / 10)) ((48 + n % 10) ∷ []) xs (omega (arith, c .pre))
+          ∙ ap (λ ds. over at ds xs) (sym (from-ten n (c .if-number-lt10 .left) (c .fits .number .fits)));
     }

@@ -19,7 +19,6 @@ use Rattle.printout.proofs.put.put_aborted.Needs as need
 pub put-words-at-requires : need.put-words-at-requires
 put-words-at-requires c κs = (c .pre .0, words-room (codes "aborted") (10 ∷ []) (unsigned (c .args .serial) ∷ []) 80 (u32 (c .args .serial) (c .fits .serial), tt) (lit< tt))
 
-
 pub put-remark-requires : need.put-remark-requires
 put-remark-requires c κs =
     let few = words-room (codes "aborted") (10 ∷ []) (unsigned (c .args .serial) ∷ []) 19 (u32 (c .args .serial) (c .fits .serial), tt) (lit< tt) in
@@ -38,5 +37,5 @@ returns c =
     record {
       room = omega (arith, few, first .place, rest .place, c .pre .1, length-remark reason);
       place = both .0 ∙ zero-add (length (codes "aborted" ++ fields (unsigned serial ∷ []) ++ remark reason)) ∙ ap (λ z. length (codes "aborted" ++ fields (z ∷ []) ++ remark reason)) cast;
-      bytes = both .1 ∙ ap (λ z. over 0 (codes "aborted" ++ fields (z ∷ []) ++ remark reason) xs) cast
+      bytes = both .1 ∙ ap (λ z. over 0 (codes "aborted" ++ fields (z ∷ []) ++ remark reason) xs) cast;
     }

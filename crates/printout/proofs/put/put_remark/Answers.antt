@@ -38,7 +38,7 @@ loop-byte-again c =
     let n : length (map shown (take i reason)) ≡ i = length-map (take i reason) shown ∙ length-take-le i reason (omega arith) in
     let long : at ≤ length xs = omega (arith, c .pre, ap length (some-remark reason (c .if-reason-eq0 .left)), length-map reason shown, c .put-byte-end .ensures .place, c .put-byte-end .kept .buffer) in
     let both = next at _ _ (map shown (take i reason)) (shown (getD reason i 0) ∷ []) xs _ _ long
-          (c .loop-byte .inv .0 ∙ ap (λ m. at + m) (sym n)) (c .loop-byte .inv .1) (told .place) (told .bytes ∙ ap (λ (x : ℕ). over (c .loop-byte .end) (x ∷ []) (c .loop-byte .buffer)) b) in
+    (c .loop-byte .inv .0 ∙ ap (λ m. at + m) (sym n)) (c .loop-byte .inv .1) (told .place) (told .bytes ∙ ap (λ (x : ℕ). over (c .loop-byte .end) (x ∷ []) (c .loop-byte .buffer)) b) in
     (omega (arith, told .place, c .loop-byte .inv .0), both .1 ∙ ap (λ ds. over at ds xs) (sym (map-more shown reason i 0 h)))
 
 pub returns : need.returns
@@ -52,5 +52,5 @@ returns c =
     let long : at ≤ length xs = omega (arith, c .pre) in
     let n : c .loop-byte .end ≡ c .put-byte-end .result + length (map shown reason) = omega (arith, inv .0, length-map reason shown, c .loop-byte .kept .byte-index-end, c .loop-byte-test .left) in
     let both = next at _ _ (32 ∷ []) (map shown reason) xs _ _ long (c .put-byte-end .ensures .place) (c .put-byte-end .ensures .bytes)
-          n (inv .1 ∙ ap (λ ds. over (c .put-byte-end .result) ds (c .put-byte-end .last .buffer)) all) in
+    n (inv .1 ∙ ap (λ ds. over (c .put-byte-end .result) ds (c .put-byte-end .last .buffer)) all) in
     record { place = both .0 ∙ ap (λ (ds : List ℕ). at + length ds) (sym e); bytes = both .1 ∙ ap (λ ds. over at ds xs) (sym e) }

@@ -50,5 +50,5 @@ returns c =
     let xs = c .put-text-at .last .buffer in
     let inv = c .loop-number .inv in
     let both = next 0 _ _ (c .args .word .now) (fields ns) (c .args .buffer .now) _ _ (omega arith) (c .put-text-at .ensures .place) (c .put-text-at .ensures .bytes)
-          (inv .0 ∙ ap (λ (ds : List ℕ). at + length ds) all) (inv .1 ∙ ap (λ ds. over at ds xs) all) in
+    (inv .0 ∙ ap (λ (ds : List ℕ). at + length ds) all) (inv .1 ∙ ap (λ ds. over at ds xs) all) in
     record { room = omega (arith, both .0, c .pre .1); place = omega (arith, both .0); bytes = both .1 }

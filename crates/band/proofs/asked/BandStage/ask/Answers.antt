@@ -25,8 +25,8 @@ returns-then-reading-self c =
     let ff : SFits w32 (row (b .rows) 0 .first) = search needs in let fb : SFits w32 (b .last) = search needs in
     let same = toZ-ofZ w32 r fr in
     elim (c .then-reading-self .came) [
-      then-reading-self·by·then-reading-self w ↦ refuses rows (b .last) r _ same (outside-low (row rows 0 .first) r r (b .last) (omega (arith, ints, w .if-reading-self .taken)))
-    | then-reading-self·by·else-reading-self·then-reading-self-2 w ↦ refuses rows (b .last) r _ same (outside-high (row rows 0 .first) r r (b .last) (omega (arith, ints, w .if-reading-self-2 .taken)))
+      | then-reading-self·by·then-reading-self w ↦ refuses rows (b .last) r _ same (outside-low (row rows 0 .first) r r (b .last) (omega (arith, ints, w .if-reading-self .taken)))
+      | then-reading-self·by·else-reading-self·then-reading-self-2 w ↦ refuses rows (b .last) r _ same (outside-high (row rows 0 .first) r r (b .last) (omega (arith, ints, w .if-reading-self-2 .taken)))
     ]
 
 pub returns : need.returns

@@ -9,5 +9,9 @@ use Rattle.channel.proofs.channel.Channel.new.Needs as need
 pub returns : need.returns
 unfolding events Lawful
 returns g c =
-    record { number = search needs; stage = search needs; book = c .new .ensures;
-      law = subst (Led (g .S·Stage .meaning (c .args .stage)) (c .args .number) []) (sym (c .new .ensures)) (tt, agrees-blank) }
+    record {
+      number = search needs;
+      stage = search needs;
+      book = c .new .ensures;
+      law = subst (Led (g .S·Stage .meaning (c .args .stage)) (c .args .number) []) (sym (c .new .ensures)) (tt, agrees-blank);
+    }

@@ -5,8 +5,9 @@ use Rattle.frames.proofs.reader.Reader.new.Needs.{then-tape-gt4096, else-tape-
 
 pub returns : need.returns
 returns c = record {
-    tape = elim (c .if-tape-gt4096 .came) [
-        then-tape-gt4096 w ↦ ap (λ t. t .now) (w .tape-is)
-      | else-tape-gt4096 w ↦ ap (λ t. t .now) (w .tape-is) ∙ sym (take-all 4096 (c .args .tape .now) (w .if-tape-gt4096 .left)) ];
-    position = refl
-  }
+  tape = elim (c .if-tape-gt4096 .came) [
+    | then-tape-gt4096 w ↦ ap (λ t. t .now) (w .tape-is)
+    | else-tape-gt4096 w ↦ ap (λ t. t .now) (w .tape-is) ∙ sym (take-all 4096 (c .args .tape .now) (w .if-tape-gt4096 .left))
+  ];
+  position = refl;
+}

@@ -17,8 +17,9 @@ loop-place-again c =
     let inv = c .loop-place .inv in
     let lt : c .loop-place .place-index < length ps = omega arith in
     elim (c .match-place .came) [
-      in-Open w ↦ let e = one-more is-open ps (c .loop-place .place-index) (c .loop-place .count) (c .match-place .count) _ lt (inv .0) (inv .1) (ap is-open (w .in-Open .is)) (w .count-is) in (e .0, e .1, λ more. long)
-    | in-rest w ↦ let e = as-many is-open ps (c .loop-place .place-index) (c .loop-place .count) (c .match-place .count) _ lt (inv .0) (inv .1) (not-open _ (w .in-rest .not-Open)) (w .count-is) in (e .0, e .1, λ more. long) ]
+      | in-Open w ↦ let e = one-more is-open ps (c .loop-place .place-index) (c .loop-place .count) (c .match-place .count) _ lt (inv .0) (inv .1) (ap is-open (w .in-Open .is)) (w .count-is) in (e .0, e .1, λ more. long)
+      | in-rest w ↦ let e = as-many is-open ps (c .loop-place .place-index) (c .loop-place .count) (c .match-place .count) _ lt (inv .0) (inv .1) (not-open _ (w .in-rest .not-Open)) (w .count-is) in (e .0, e .1, λ more. long)
+    ]
 
 pub returns : need.returns
 returns c =

@@ -1,0 +1,3 @@
+pub mod Low
+pub mod Best
+pub mod Narrowest
