@@ -3,7 +3,7 @@ use mathlib.Core.Path.{_≡_}
 use mathlib.Core.List.{List, [], _∷_, _++_}
 use Prim.Native.Nat.{ℕ}
 use Rattle.std.specs.declared.option.Option.{Option}
-use Rattle.std.specs.declared.option.Option.the-variants.{None}
+use Rattle.std.specs.declared.option.Option.the-variants.{Some, None}
 use Rattle.stage.specs.Meaning.{Meaning}
 use Rattle.book.specs.declared.call.Call.{Call}
 use Rattle.book.specs.declared.answer.Answer.{Answer}
@@ -12,8 +12,9 @@ use Rattle.book.specs.Run.{after, Replies}
 use Rattle.channel.specs.declared.point.Point.{Point}
 use Rattle.channel.specs.Lines.{OfLines}
 use Rattle.frames.specs.Tape.{Said}
+use Rattle.frames.specs.Tape as tape
 use Rattle.printout.specs.declared.line.Line.{Line}
-use Rattle.printout.specs.Text.{text, reasonOf}
+use Rattle.printout.specs.Text.{text}
 use Rattle.player.specs.Lines.{telling}
 use Rattle.player.specs.Script.{handed, before, script}
 
@@ -38,3 +39,32 @@ pub record Reached (m : Meaning) (n : ℕ) (all : List Said) (o : Option Point) 
   pub answers : List Answer
   pub led : LedBy m n calls answers b
   pub onward : (rs : List Answer) → script None all (answers ++ rs) ≡ before calls printed (script o left rs)
+
+-- the room for the line that is owed while a point is open
+abbrev pub owed : Option Point → ℕ
+owed None = 0
+owed (Some p) = 80
+
+-- the room for what a frame may bring: its line, and that of the point which a load opens
+abbrev pub brings : tape.Meaning → ℕ
+brings (tape.load x) = 160
+brings (tape.reading r) = 80
+brings (tape.abort why) = 80
+brings (tape.withdraw s) = 80
+brings tape.verdict = 80
+brings tape.slope = 80
+brings (tape.value x) = 80
+brings tape.tallies = 80
+brings tape.clear = 80
+
+-- a frame for which no point is needed, and none is opened
+abbrev pub Plain : tape.Meaning → Type 0
+Plain (tape.load x) = ⊥
+Plain (tape.reading r) = ⊥
+Plain (tape.abort why) = ⊥
+Plain (tape.withdraw s) = Unit {0}
+Plain tape.verdict = Unit {0}
+Plain tape.slope = Unit {0}
+Plain (tape.value x) = Unit {0}
+Plain tape.tallies = Unit {0}
+Plain tape.clear = Unit {0}

@@ -4,10 +4,15 @@ ghost use Rattle.std.specs.declared.option.Option.the-variants.{None};
 ghost use Rattle.book.specs.declared.call.Call.the-variants as call;
 ghost use Rattle.register.specs.Page.{page};
 ghost use Rattle.printout.specs.Text.{reasonOf};
+ghost use Rattle.std.specs.declared.result.Result.the-variants.{Ok};
+ghost use Rattle.channel.specs.Told.{ofVerdict};
+ghost use Rattle.player.specs.Lines.{telling};
 ghost use Rattle.player.specs.Steps.{Made};
 use channel::channel::Channel;
 use channel::point::Point;
+use crate::refusing::refused;
 use printout::line::Line;
+use questions::verdict::Verdict;
 use stage::stage::Stage;
 
 // The point that is opened at an argument, if it is, and the line of that.
@@ -22,7 +27,7 @@ pub fn load<'a, S: Stage>(channel: &mut Channel<S>, argument: i32) -> (Option<Po
             let serial = point.serial();
             (Some(point), Line::Load { serial, argument })
         }
-        Err(refusal) => (None, Line::Refused { number: refusal.number() }),
+        Err(refusal) => (None, refused(refusal)),
     }
 }
 
@@ -35,7 +40,7 @@ pub fn withdraw<'a, S: Stage>(channel: &mut Channel<S>, serial: u32) -> Line<'a>
 {
     match channel.withdraw(serial) {
         Ok(serial) => Line::Withdrawn { serial },
-        Err(refusal) => Line::Refused { number: refusal.number() },
+        Err(refusal) => refused(refusal),
     }
 }
 
@@ -63,5 +68,48 @@ pub fn tally<'a, S: Stage>(channel: &Channel<S>) -> Line<'a>
         aborted: tallies.aborted,
         open: tallies.open,
         held: tallies.held,
+    }
+}
+
+// The line of a verdict that was told.
+fn judged<'a>(verdict: Verdict) -> Line<'a>
+    ensures { λ r. ⌜ r ≡ telling call.Verdict [] (ofVerdict (Ok verdict)) ⌝ }
+{
+    match verdict {
+        Verdict::Line => Line::Possible,
+        Verdict::Conflict { conflict } => Line::Conflicting { conflict },
+    }
+}
+
+// The line of the verdict.
+pub fn verdict<'a, S: Stage>(channel: &Channel<S>) -> Line<'a>
+    ensures made { λ r. ⌜ Made (meaning (now (channel .entry) .stage)) (now (channel .entry) .number) (page (now (channel .entry) .register)) call.Verdict [] (page (now (channel .entry) .register)) None r ⌝ }
+    ensures reason { λ r. ⌜ reasonOf r ≡ [] ⌝ }
+{
+    match channel.verdict() {
+        Ok(verdict) => judged(verdict),
+        Err(refusal) => refused(refusal),
+    }
+}
+
+// The line of the least and the greatest slope.
+pub fn slope<'a, S: Stage>(channel: &Channel<S>) -> Line<'a>
+    ensures made { λ r. ⌜ Made (meaning (now (channel .entry) .stage)) (now (channel .entry) .number) (page (now (channel .entry) .register)) call.Slope [] (page (now (channel .entry) .register)) None r ⌝ }
+    ensures reason { λ r. ⌜ reasonOf r ≡ [] ⌝ }
+{
+    match channel.slope() {
+        Ok(bounds) => Line::slope(bounds.0, bounds.1),
+        Err(refusal) => refused(refusal),
+    }
+}
+
+// The line of the least and the greatest value at an argument.
+pub fn value<'a, S: Stage>(channel: &Channel<S>, argument: i32) -> Line<'a>
+    ensures made { λ r. ⌜ Made (meaning (now (channel .entry) .stage)) (now (channel .entry) .number) (page (now (channel .entry) .register)) (call.Value argument) [] (page (now (channel .entry) .register)) None r ⌝ }
+    ensures reason { λ r. ⌜ reasonOf r ≡ [] ⌝ }
+{
+    match channel.value(argument) {
+        Ok(bounds) => Line::value(bounds.0, bounds.1),
+        Err(refusal) => refused(refusal),
     }
 }

@@ -9,8 +9,9 @@ ghost use Rattle.printout.specs.Text.{reasonOf};
 ghost use Rattle.player.specs.Steps.{Made};
 use channel::channel::Channel;
 use channel::point::Point;
+use crate::refusing::refused;
+use crate::refusing::unfiled;
 use printout::line::Line;
-use refusal::refusal::Refusal;
 use stage::stage::Stage;
 
 // The line of a point that a reading ends.
@@ -23,8 +24,7 @@ pub fn file<'a, S: Stage>(channel: &mut Channel<S>, point: Point, reading: i32) 
     let serial = point.serial();
     match channel.file(point, reading) {
         Ok(filed) => Line::Set { serial: filed.serial, lower: filed.set.lower, upper: filed.set.upper },
-        Err(Refusal::ReadingNotTaken { place, value }) => Line::Spoiled { serial, number: 5, place, value },
-        Err(refusal) => Line::Refused { number: refusal.number() },
+        Err(refusal) => unfiled(serial, refusal),
     }
 }
 
@@ -36,8 +36,9 @@ pub fn abort<'a, S: Stage>(channel: &mut Channel<S>, point: Point, reason: &'a [
     ensures made { λ r. ⌜ Made (meaning (now (channel .entry) .stage)) (now (channel .entry) .number) (page (now (channel .entry) .register)) (call.Abort (point .number) (point .serial)) (now (reason .entry)) (page (now (channel .exit) .register)) None r ⌝ }
     ensures reason { λ r. ⌜ length (reasonOf r) ≤ 15 ⌝ }
 {
-    match channel.abort(point) {
-        Ok(serial) => Line::Aborted { serial, reason },
-        Err(refusal) => Line::Refused { number: refusal.number() },
-    }
+    let serial = match channel.abort(point) {
+        Ok(serial) => serial,
+        Err(refusal) => return refused(refusal),
+    };
+    Line::Aborted { serial, reason }
 }

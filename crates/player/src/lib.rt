@@ -3,4 +3,5 @@ mod asking;
 mod ending;
 pub mod play;
 mod printing;
+mod refusing;
 mod turn;

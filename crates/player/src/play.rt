@@ -5,10 +5,10 @@ use bounded::ends::BoundedStage;
 use channel::channel::Channel;
 use channel::point::Point;
 use crate::printing::put_line;
+use crate::refusing::refused;
 use crate::turn::interrupt;
 use crate::turn::turn;
 use frames::reader::Reader;
-use printout::line::Line;
 use refusal::refusal::Refusal;
 use stage::chain::Chain;
 use stage::chained::ChainStage;
@@ -18,7 +18,7 @@ use step::ends::StepStage;
 use step::step::Step;
 
 // Plays a tape on a new channel of that number, on a stage or chain. The printout goes to the front of the buffer: how many bytes it has.
-pub fn play_on<S: Stage>(number: u16, stage: S, tape: &[u8], out: &mut [u8]) -> Result<usize, Refusal>
+pub fn play_on<S: Stage + Drop>(number: u16, stage: S, tape: &[u8], out: &mut [u8]) -> Result<usize, Refusal>
     ensures { λ r. ⌜ Played (meaning stage) number (now (tape .entry)) (now (out .entry)) (now (out .exit)) r ⌝ }
 {
     if out.len() / 80 < tape.len().min(4096) {
@@ -26,22 +26,22 @@ pub fn play_on<S: Stage>(number: u16, stage: S, tape: &[u8], out: &mut [u8]) -> 
     }
     let mut reader = Reader::new(tape);
     let mut channel = Channel::new(number, stage);
-    let mut open: Option<Point> = None;
+    let mut pending: Option<Point> = None;
     let mut at = 0;
     loop {
         let frame = match reader.next() {
             Ok(frame) => frame,
             Err(refusal) => {
-                at = interrupt(&mut channel, open, out, at);
-                let line = Line::Refused { number: refusal.number() };
+                at = interrupt(&mut channel, pending, out, at);
+                let line = refused(refusal);
                 return Ok(put_line(&line, out, at));
             }
         };
         let Some(frame) = frame else {
-            return Ok(interrupt(&mut channel, open, out, at));
+            return Ok(interrupt(&mut channel, pending, out, at));
         };
-        let (point, place) = turn(&mut channel, open, frame, out, at);
-        open = point;
+        let (point, place) = turn(&mut channel, pending, frame, out, at);
+        pending = point;
         at = place;
     }
 }

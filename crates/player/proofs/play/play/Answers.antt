@@ -1,0 +1,4 @@
+use Rattle.player.proofs.play.play.Needs as need
+
+pub returns : need.returns
+returns c = ?
