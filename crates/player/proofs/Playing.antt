@@ -13,7 +13,12 @@ use Rattle.book.proofs.Laws.{replies-none}
 use Rattle.channel.specs.declared.point.Point.{Point}
 use Rattle.channel.specs.Lines.{OfLines}
 use Rattle.channel.proofs.Wholes.{whole}
-use Rattle.frames.specs.Tape.{Said, ended, frame, said}
+use Rattle.std.specs.declared.result.Result.the-variants.{Ok, Err}
+use Rattle.refusal.specs.declared.refusal.Refusal.{Refusal}
+use Rattle.frames.specs.declared.frame.Frame.{Frame}
+use Rattle.frames.specs.Tape.{Said, ended, frame, said, moved}
+use Rattle.frames.specs.Answers.{answer, meant, meaning}
+use Rattle.player.proofs.Frames.{of-frame, of-end, of-refusal, Ends}
 use Rattle.player.specs.Sayings.{sayings}
 use Rattle.player.specs.Script.{script, before}
 use Rattle.player.specs.Steps.{Reached, owed}
@@ -48,3 +53,25 @@ over m n tape left b t none g = record {
       ∙ ap (before (g .calls) t) none
       ∙ (λ i. record { calls = append-nil (g .calls) i; text = append-nil t i });
   }
+
+-- ---- what the reader answered, of the tape that the run began with
+
+module _ (p : ℕ) (t tape : List ℕ) (same : t ≡ tape) where
+  pub frame-read : (o : Option Frame) (f : Frame) → o ≡ Some f → meant (Ok o) ≡ answer p (said (drop p t)) → said (drop p tape) ≡ frame (meaning f) (moved (said (drop p tape)))
+  frame-read o f e told =
+      of-frame p (said (drop p tape)) (meaning f) (ap (λ x. meant (Ok x)) (sym e) ∙ told ∙ ap (λ bytes. answer p (said (drop p bytes))) same)
+
+  pub end-read : (o : Option Frame) → o ≡ None → meant (Ok o) ≡ answer p (said (drop p t)) → said (drop p tape) ≡ ended
+  end-read o e told = of-end p (said (drop p tape)) (ap (λ x. meant (Ok x)) (sym e) ∙ told ∙ ap (λ bytes. answer p (said (drop p bytes))) same)
+
+  pub refusal-read : (e : Refusal) → meant (Err e) ≡ answer p (said (drop p t)) → Ends (said (drop p tape)) e
+  refusal-read e told = of-refusal p (said (drop p tape)) e (told ∙ ap (λ bytes. answer p (said (drop p bytes))) same)
+
+-- nothing comes after the end
+pub none-left : script None [] [] ≡ record { calls = []; text = [] }
+unfolding script
+none-left = refl
+
+pub none-after : (s : Said) (ss : List Said) → s ≡ ended → script None (s ∷ ss) [] ≡ record { calls = []; text = [] }
+unfolding script
+none-after s ss e = ap (λ x. script None (x ∷ ss) []) e

@@ -35,6 +35,7 @@ pub fn interrupt<S: Stage>(channel: &mut Channel<S>, pending: Option<Point>, out
     ensures number { λ _. ⌜ now (channel .exit) .number ≡ now (channel .entry) .number ⌝ }
     ensures stage { λ _. ⌜ now (channel .exit) .stage ≡ now (channel .entry) .stage ⌝ }
     ensures rest { λ r. ⌜ drop r (now (out .exit)) ≡ drop r (now (out .entry)) ⌝ }
+    ensures after { λ r. ⌜ at ≤ r ⌝ }
     ensures room { λ r. ⌜ r ≤ at + owed pending ⌝ }
     ensures run { λ r. ⌜ ((all ss : List Said) (s : Said) → interrupts s ≡ true → Reached (meaning (now (channel .entry) .stage)) (now (channel .entry) .number) all pending (s ∷ ss) (page (now (channel .entry) .register)) (take at (now (out .entry))) → Reached (meaning (now (channel .entry) .stage)) (now (channel .entry) .number) all None (s ∷ ss) (page (now (channel .exit) .register)) (take r (now (out .exit)))) ⌝ }
 {
@@ -51,6 +52,7 @@ fn read<S: Stage>(channel: &mut Channel<S>, pending: Option<Point>, reading: i32
     ensures number { λ _. ⌜ now (channel .exit) .number ≡ now (channel .entry) .number ⌝ }
     ensures stage { λ _. ⌜ now (channel .exit) .stage ≡ now (channel .entry) .stage ⌝ }
     ensures rest { λ r. ⌜ drop r (now (out .exit)) ≡ drop r (now (out .entry)) ⌝ }
+    ensures after { λ r. ⌜ at ≤ r ⌝ }
     ensures room { λ r. ⌜ r ≤ at + 80 ⌝ }
     ensures run { λ r. ⌜ ((all ss : List Said) (k : ℕ) → Reached (meaning (now (channel .entry) .stage)) (now (channel .entry) .number) all pending (framed (read reading) k ∷ ss) (page (now (channel .entry) .register)) (take at (now (out .entry))) → Reached (meaning (now (channel .entry) .stage)) (now (channel .entry) .number) all None ss (page (now (channel .exit) .register)) (take r (now (out .exit)))) ⌝ }
 {
@@ -68,6 +70,7 @@ fn give_up<S: Stage>(channel: &mut Channel<S>, pending: Option<Point>, reason: &
     ensures number { λ _. ⌜ now (channel .exit) .number ≡ now (channel .entry) .number ⌝ }
     ensures stage { λ _. ⌜ now (channel .exit) .stage ≡ now (channel .entry) .stage ⌝ }
     ensures rest { λ r. ⌜ drop r (now (out .exit)) ≡ drop r (now (out .entry)) ⌝ }
+    ensures after { λ r. ⌜ at ≤ r ⌝ }
     ensures room { λ r. ⌜ r ≤ at + 80 ⌝ }
     ensures run { λ r. ⌜ ((all ss : List Said) (k : ℕ) → Reached (meaning (now (channel .entry) .stage)) (now (channel .entry) .number) all pending (framed (aborted (now (reason .entry))) k ∷ ss) (page (now (channel .entry) .register)) (take at (now (out .entry))) → Reached (meaning (now (channel .entry) .stage)) (now (channel .entry) .number) all None ss (page (now (channel .exit) .register)) (take r (now (out .exit)))) ⌝ }
 {
@@ -105,6 +108,7 @@ pub fn turn<'a, S: Stage>(channel: &mut Channel<S>, pending: Option<Point>, fram
     ensures number { λ _. ⌜ now (channel .exit) .number ≡ now (channel .entry) .number ⌝ }
     ensures stage { λ _. ⌜ now (channel .exit) .stage ≡ now (channel .entry) .stage ⌝ }
     ensures rest { λ r. ⌜ drop (r .1) (now (out .exit)) ≡ drop (r .1) (now (out .entry)) ⌝ }
+    ensures after { λ r. ⌜ at ≤ r .1 ⌝ }
     ensures room { λ r. ⌜ r .1 + owed (r .0) ≤ at + owed pending + brings (says (frame .entry)) ⌝ }
     ensures run { λ r. ⌜ ((all ss : List Said) (k : ℕ) → Reached (meaning (now (channel .entry) .stage)) (now (channel .entry) .number) all pending (framed (says (frame .entry)) k ∷ ss) (page (now (channel .entry) .register)) (take at (now (out .entry))) → Reached (meaning (now (channel .entry) .stage)) (now (channel .entry) .number) all (r .0) ss (page (now (channel .exit) .register)) (take (r .1) (now (out .exit)))) ⌝ }
 {

@@ -25,6 +25,7 @@ returns-in-rest g c =
       number = search needs;
       stage = search needs;
       rest = c .put-line .ensures .rest;
+      after = c .put-line .ensures .after;
       room = c .put-line .ensures .room;
       run = λ all ss k reached.
         refused-on (g .S·Stage .meaning (c .args .channel .now .stage)) (c .args .channel .now .number) all None None (frame (abort why) k ∷ ss) ss _ (take (c .args .at) (c .args .out .now)) _ (text (Refused 13))
@@ -41,6 +42,7 @@ returns g c =
       number = c .abort-line .ensures .number;
       stage = c .abort-line .ensures .stage;
       rest = c .put-line-2 .ensures .rest;
+      after = c .put-line-2 .ensures .after;
       room = c .put-line-2 .ensures .room;
       run = λ all ss k reached.
         made-on (g .S·Stage .meaning (c .args .channel .now .stage)) (c .args .channel .now .number) all (Some p) None (frame (abort why) k ∷ ss) ss _ _ (take (c .args .at) (c .args .out .now)) _ (giving-up p) why (c .abort-line .result)

@@ -23,6 +23,7 @@ returns-in-rest g c =
       number = search needs;
       stage = search needs;
       rest = search needs;
+      after = omega arith;
       room = omega arith;
       run = λ all ss s stop reached. subst (λ o. Reached (g .S·Stage .meaning (c .args .channel .now .stage)) (c .args .channel .now .number) all o (s ∷ ss) (page (c .args .channel .now .register)) (take (c .args .at) (c .args .out .now))) e reached;
     }
@@ -36,6 +37,7 @@ returns g c =
       number = c .abort-line .ensures .number;
       stage = c .abort-line .ensures .stage;
       rest = c .put-line .ensures .rest;
+      after = c .put-line .ensures .after;
       room = omega (arith, ap owed e);
       run = λ all ss s stop reached.
         made-on (g .S·Stage .meaning (c .args .channel .now .stage)) (c .args .channel .now .number) all (Some p) None (s ∷ ss) (s ∷ ss) _ _ (take (c .args .at) (c .args .out .now)) _ (giving-up p) [] (c .abort-line .result)

@@ -27,6 +27,7 @@ returns-in-Reading g c =
       number = here .number;
       stage = here .stage;
       rest = here .rest;
+      after = here .after;
       room = omega (arith, here .room, ap (λ f. brings (meaning f)) e);
       run = λ all ss k reached. here .run all ss k
         (subst (λ x. Reached (g .S·Stage .meaning (c .args .channel .now .stage)) (c .args .channel .now .number) all (c .args .pending) (frame (reading x) k ∷ ss) (page (c .args .channel .now .register)) (take (c .args .at) (c .args .out .now))) (sym (toZ-ofZ w32 (c .in-Reading .reading) f))
@@ -41,6 +42,7 @@ returns-in-Abort g c =
       number = here .number;
       stage = here .stage;
       rest = here .rest;
+      after = here .after;
       room = omega (arith, here .room, ap (λ f. brings (meaning f)) e);
       run = λ all ss k reached. here .run all ss k (subst (λ f. Reached (g .S·Stage .meaning (c .args .channel .now .stage)) (c .args .channel .now .number) all (c .args .pending) (frame (meaning f) k ∷ ss) (page (c .args .channel .now .register)) (take (c .args .at) (c .args .out .now))) e reached);
     }
@@ -60,6 +62,7 @@ returns-in-Load g c =
       number = c .load-point .ensures .number ∙ first .number;
       stage = c .load-point .ensures .stage ∙ first .stage;
       rest = c .put-line .ensures .rest ∙ rest-later out (c .args .out .now) (c .interrupt-at .result) (c .put-line .result) (c .put-line .ensures .after) (first .rest);
+      after = omega (arith, first .after, c .put-line .ensures .after);
       room = omega (arith, first .room, c .put-line .ensures .room, owed-few point, ap (λ f. brings (meaning f)) e);
       run = λ all ss k reached.
         made-on (g .S·Stage .meaning (c .args .channel .now .stage)) (c .args .channel .now .number) all None point (frame (load x) k ∷ ss) ss (page (channel .register)) there (take (c .interrupt-at .result) out) _ (call.Open x) [] line
@@ -84,6 +87,7 @@ returns-in-rest g c =
       number = c .ask-line .ensures .number ∙ first .number;
       stage = c .ask-line .ensures .stage ∙ first .stage;
       rest = c .put-line-in-rest .ensures .rest ∙ rest-later out (c .args .out .now) (c .interrupt-at-in-rest .result) (c .put-line-in-rest .result) (c .put-line-in-rest .ensures .after) (first .rest);
+      after = omega (arith, first .after, c .put-line-in-rest .ensures .after);
       room = omega (arith, first .room, c .put-line-in-rest .ensures .room, plain .one-line);
       run = λ all ss k reached.
         made-on (g .S·Stage .meaning (c .args .channel .now .stage)) (c .args .channel .now .number) all None None (frame m k ∷ ss) ss (page (channel .register)) there (take (c .interrupt-at-in-rest .result) out) _ asked [] line
