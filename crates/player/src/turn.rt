@@ -57,8 +57,8 @@ fn read<S: Stage>(channel: &mut Channel<S>, pending: Option<Point>, reading: i32
     ensures run { λ r. ⌜ ((all ss : List Said) (k : ℕ) → Reached (meaning (now (channel .entry) .stage)) (now (channel .entry) .number) all pending (framed (read reading) k ∷ ss) (page (now (channel .entry) .register)) (take at (now (out .entry))) → Reached (meaning (now (channel .entry) .stage)) (now (channel .entry) .number) all None ss (page (now (channel .exit) .register)) (take r (now (out .exit)))) ⌝ }
 {
     let Some(point) = pending else {
-        let line = refused(Refusal::NoOpenPoint);
-        return put_line(&line, out, at);
+        let passed = refused(Refusal::NoOpenPoint);
+        return put_line(&passed, out, at);
     };
     let line = file(channel, point, reading);
     put_line(&line, out, at)

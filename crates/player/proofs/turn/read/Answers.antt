@@ -29,7 +29,7 @@ returns-in-rest g c =
       room = c .put-line .ensures .room;
       run = λ all ss k reached.
         refused-on (g .S·Stage .meaning (c .args .channel .now .stage)) (c .args .channel .now .number) all None None (frame (reading (c .args .reading)) k ∷ ss) ss _ (take (c .args .at) (c .args .out .now)) _ (text (Refused 13))
-          (unread (c .args .reading) k ss) (c .put-line .ensures .text ∙ ap (λ l. take (c .args .at) (c .args .out .now) ++ text l) (c .refused-line .ensures))
+          (unread (c .args .reading) k ss) (c .put-line .ensures .text ∙ ap (λ l. take (c .args .at) (c .args .out .now) ++ text l) (c .refused-passed .ensures))
           (subst (λ o. Reached (g .S·Stage .meaning (c .args .channel .now .stage)) (c .args .channel .now .number) all o (frame (reading (c .args .reading)) k ∷ ss) (page (c .args .channel .now .register)) (take (c .args .at) (c .args .out .now))) e reached);
     }
 
