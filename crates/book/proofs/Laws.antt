@@ -154,7 +154,7 @@ kept-run m n cs = kept-after m n blank (kept-blank m) cs
 -- ---- one call more, for a loop over the calls
 
 module _ (m : Meaning) (n : ℕ) where
-  after-push : (b : Book) (cs : List Call) (c : Call) → after m n b (cs ++ c ∷ []) ≡ next m n (after m n b cs) c
+  pub after-push : (b : Book) (cs : List Call) (c : Call) → after m n b (cs ++ c ∷ []) ≡ next m n (after m n b cs) c
   unfolding after
   after-push b [] c = refl
   after-push b (x ∷ cs) c = after-push (next m n b x) cs c
@@ -162,7 +162,7 @@ module _ (m : Meaning) (n : ℕ) where
   pub after-more : (b : Book) (cs : List Call) (i : ℕ) (d : Call) → i < length cs → after m n b (take (i + 1) cs) ≡ next m n (after m n b (take i cs)) (getD cs i d)
   after-more b cs i d lt = ap (after m n b) (take-more cs i d lt) ∙ after-push b (take i cs) (getD cs i d)
 
-  replies-push : (Q : Questions) (b : Book) (cs : List Call) (rs : List Answer) (c : Call) (r : Answer) → Replies Q m n b cs rs
+  pub replies-push : (Q : Questions) (b : Book) (cs : List Call) (rs : List Answer) (c : Call) (r : Answer) → Replies Q m n b cs rs
       → Answers (told m n (after m n b cs) c) (Q (rows (after m n b cs)) c r) r → Replies Q m n b (cs ++ c ∷ []) (rs ++ r ∷ [])
   unfolding after Replies
   replies-push Q b [] [] c r e a = (a, tt)

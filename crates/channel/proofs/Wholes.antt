@@ -26,7 +26,7 @@ use Rattle.channel.specs.Runs.{Whole}
 use Rattle.channel.proofs.Sheets.{sheet-of, unordered}
 
 -- what is said of the places of a register is said of the rows of its page
-lines-of : (o : Option Answer) (g : Register) (c : Call) (r : Answer) → DistinctSerials (rows (page g)) → Answers o (Says (held (g .places .all)) c r) r → Answers o (OfLines (rows (page g)) c r) r
+pub lines-of : (o : Option Answer) (g : Register) (c : Call) (r : Answer) → DistinctSerials (rows (page g)) → Answers o (Says (held (g .places .all)) c r) r → Answers o (OfLines (rows (page g)) c r) r
 lines-of (Some a) g c r distinct e = e
 lines-of None g c r distinct says = (held (g .places .all), sheet-of (g .places .all) distinct, says)
 

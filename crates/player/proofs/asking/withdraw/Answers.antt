@@ -1,0 +1,17 @@
+use mathlib.Core.Path.{refl, ap}
+use Rattle.register.specs.Page.{page}
+use Rattle.book.specs.declared.call.Call.the-variants as call
+use borrow.Author.Needs.{needs}
+use Rattle.std.specs.declared.result.Result.the-variants.{Ok, Err}
+use Rattle.printout.specs.Text.{text, reasonOf}
+use Rattle.player.proofs.Making.{goes-told, goes-said}
+use Rattle.channel.specs.Told.{ofWithdraw}
+use Rattle.player.proofs.asking.withdraw.Needs as need
+
+pub returns-in-Ok : need.returns-in-Ok
+returns-in-Ok g c =
+    record { number = search needs; stage = search needs; made = record { answer = ofWithdraw (Ok (c .in-Ok .serial)); goes = goes-told (g .S·Stage .meaning (c .args .channel .now .stage)) (c .args .channel .now .number) (page (c .args .channel .now .register)) (call.Withdraw (c .args .serial)) _ _ (c .in-Ok .ensures tt .book) (c .in-Ok .ensures tt .told); point-is = refl; line-is = refl }; reason = refl }
+
+pub returns-in-Err : need.returns-in-Err
+returns-in-Err g c =
+    record { number = search needs; stage = search needs; made = record { answer = ofWithdraw (Err (c .in-Err .refusal)); goes = goes-told (g .S·Stage .meaning (c .args .channel .now .stage)) (c .args .channel .now .number) (page (c .args .channel .now .register)) (call.Withdraw (c .args .serial)) _ _ (c .in-Err .ensures tt .book) (c .in-Err .ensures tt .told); point-is = refl; line-is = ap text (c .refused .ensures) }; reason = ap reasonOf (c .refused .ensures) }
