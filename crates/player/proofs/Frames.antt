@@ -40,10 +40,10 @@ modest-kind kind low rest h =
     either (eqb kind 3) _ _ (either (ltb (length rest) low) cutShort (frame (abort (take low rest)) (1 + low)) tt (omega arith, short, omega arith)) (
     either (eqb kind 4) _ _ (either (ltb (length rest) 3) cutShort (frame (withdraw (bits low (take 3 rest))) 4) tt (omega arith, omega arith, omega arith)) (
     either (eqb kind 5) _ _ (
-      either (eqb low 1) (frame verdict 1) _ (omega arith, omega arith, omega arith) (
-      either (eqb low 2) (frame slope 1) _ (omega arith, omega arith, omega arith) (
-      either (eqb low 3) _ _ (either (ltb (length rest) 2) cutShort (frame (value (argument rest)) 3) tt (omega arith, omega arith, omega arith)) (
-      either (eqb low 4) (frame tallies 1) unknown (omega arith, omega arith, omega arith) tt)))) (
+    either (eqb low 1) (frame verdict 1) _ (omega arith, omega arith, omega arith) (
+    either (eqb low 2) (frame slope 1) _ (omega arith, omega arith, omega arith) (
+    either (eqb low 3) _ _ (either (ltb (length rest) 2) cutShort (frame (value (argument rest)) 3) tt (omega arith, omega arith, omega arith)) (
+    either (eqb low 4) (frame tallies 1) unknown (omega arith, omega arith, omega arith) tt)))) (
     either (eqb kind 6) _ unknown (either (eqb low 0) (frame clear 1) unknown (omega arith, omega arith, omega arith) tt) tt)))))
 
 pub modest : (bytes : List ℕ) → Modest (said bytes)

@@ -34,25 +34,25 @@ pub record Turning (m : Meaning) (n : ℕ) (tape buffer : List ℕ) (p at : ℕ)
 pub start : (m : Meaning) (n : ℕ) (tape buffer : List ℕ) (b : Book) → b ≡ blank → 80 * length tape ≤ length buffer → Turning m n tape buffer 0 0 None b buffer
 unfolding after
 start m n tape buffer b e h = record {
-    reached = record { calls = []; answers = []; led = (e, replies-none m n OfLines blank); onward = λ rs. refl };
-    rest = refl;
-    room = omega arith;
-  }
+  reached = record { calls = []; answers = []; led = (e, replies-none m n OfLines blank); onward = λ rs. refl };
+  rest = refl;
+  room = omega arith;
+}
 
 -- the end of a run
 pub over : (m : Meaning) (n : ℕ) (tape : List ℕ) (left : List Said) (b : Book) (t : List ℕ) → script None left [] ≡ record { calls = []; text = [] }
-  → Reached m n (sayings 0 (read tape)) None left b t → Printout m n tape t
+    → Reached m n (sayings 0 (read tape)) None left b t → Printout m n tape t
 over m n tape left b t none g = record {
-    calls = g .calls;
-    answers = g .answers;
-    end = b;
-    whole = whole m n (g .calls) (g .answers) b (g .led .0) (g .led .1);
-    script-is =
+  calls = g .calls;
+  answers = g .answers;
+  end = b;
+  whole = whole m n (g .calls) (g .answers) b (g .led .0) (g .led .1);
+  script-is =
       ap (script None (sayings 0 (read tape))) (sym (append-nil (g .answers)))
       ∙ g .onward []
       ∙ ap (before (g .calls) t) none
       ∙ (λ i. record { calls = append-nil (g .calls) i; text = append-nil t i });
-  }
+}
 
 -- ---- what the reader answered, of the tape that the run began with
 

@@ -44,8 +44,9 @@ put line out buffer at n h k told bytes =
     let same : _≡_ {A = Result ℕ Refusal} (Ok n) (Ok (length t)) = told ∙ ap (λ b. cond b (Err LineNotWritten) (Ok (length t))) e in
     let long : n ≡ length t = cc in
     let filled : buffer ≡ t ++ drop (length t) (drop at out) =
-          bytes ∙ ap (λ b. cond b (part at out) (t ++ drop (length t) (part at out))) e ∙ ap (λ x. t ++ drop (length t) x) (take-rest out at) in
+    bytes ∙ ap (λ b. cond b (part at out) (t ++ drop (length t) (part at out))) e ∙ ap (λ x. t ++ drop (length t) x) (take-rest out at) in
     let w = written out t buffer at (omega arith) filled in
-    let front : length (take at out ++ t) ≡ at + n = length-append (take at out) t ∙ omega (arith, length-take-le at out) in
-    (ap (take (at + n)) w ∙ take-at (take at out ++ t) (drop (at + length t) out) (at + n) front,
-     ap (drop (at + n)) w ∙ drop-at (take at out ++ t) (drop (at + length t) out) (at + n) front ∙ ap (λ m. drop (at + m) out) (sym long))
+    let front : length (take at out ++ t) ≡ at + n = length-append (take at out) t ∙ omega (arith, length-take-le at out) in (
+      ap (take (at + n)) w ∙ take-at (take at out ++ t) (drop (at + length t) out) (at + n) front,
+      ap (drop (at + n)) w ∙ drop-at (take at out ++ t) (drop (at + length t) out) (at + n) front ∙ ap (λ m. drop (at + m) out) (sym long),
+    )

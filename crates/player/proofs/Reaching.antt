@@ -30,9 +30,9 @@ before-before cs ds t u s i = record { calls = sym (append-assoc cs ds (s .calls
 module _ (m : Meaning) (n : ℕ) (all : List Said) where
   -- a call was made
   pub made-on : (o o′ : Option Point) (left left′ : List Said) (b b′ : Book) (t t′ : List ℕ) (c : Call) (why : List ℕ) (line : Line)
-    → ((r : Answer) (rs : List Answer) → o′ ≡ handed r → script o left (r ∷ rs) ≡ before (c ∷ []) (text (telling c why r)) (script o′ left′ rs))
-    → Made m n b c why b′ o′ line → t′ ≡ t ++ text line
-    → Reached m n all o left b t → Reached m n all o′ left′ b′ t′
+      → ((r : Answer) (rs : List Answer) → o′ ≡ handed r → script o left (r ∷ rs) ≡ before (c ∷ []) (text (telling c why r)) (script o′ left′ rs))
+      → Made m n b c why b′ o′ line → t′ ≡ t ++ text line
+      → Reached m n all o left b t → Reached m n all o′ left′ b′ t′
   made-on o o′ left left′ b b′ t t′ c why line step made e g =
       let r = made .answer in
       record {
@@ -40,29 +40,29 @@ module _ (m : Meaning) (n : ℕ) (all : List Said) where
         answers = g .answers ++ r ∷ [];
         led = made .goes (g .calls) (g .answers) (g .led);
         onward = λ rs.
-          ap (script None all) (append-assoc (g .answers) (r ∷ []) rs)
-          ∙ g .onward (r ∷ rs)
-          ∙ ap (before (g .calls) t) (step r rs (made .point-is))
-          ∙ before-before (g .calls) (c ∷ []) t (text (telling c why r)) (script o′ left′ rs)
-          ∙ (λ i. before (g .calls ++ c ∷ []) (t ++ sym (made .line-is) i) (script o′ left′ rs))
-          ∙ (λ i. before (g .calls ++ c ∷ []) (sym e i) (script o′ left′ rs));
+            ap (script None all) (append-assoc (g .answers) (r ∷ []) rs)
+            ∙ g .onward (r ∷ rs)
+            ∙ ap (before (g .calls) t) (step r rs (made .point-is))
+            ∙ before-before (g .calls) (c ∷ []) t (text (telling c why r)) (script o′ left′ rs)
+            ∙ (λ i. before (g .calls ++ c ∷ []) (t ++ sym (made .line-is) i) (script o′ left′ rs))
+            ∙ (λ i. before (g .calls ++ c ∷ []) (sym e i) (script o′ left′ rs));
       }
 
   -- a frame was refused
   pub refused-on : (o o′ : Option Point) (left left′ : List Said) (b : Book) (t t′ u : List ℕ)
-    → ((rs : List Answer) → script o left rs ≡ before [] u (script o′ left′ rs))
-    → t′ ≡ t ++ u
-    → Reached m n all o left b t → Reached m n all o′ left′ b t′
+      → ((rs : List Answer) → script o left rs ≡ before [] u (script o′ left′ rs))
+      → t′ ≡ t ++ u
+      → Reached m n all o left b t → Reached m n all o′ left′ b t′
   refused-on o o′ left left′ b t t′ u step e g =
       record {
         calls = g .calls;
         answers = g .answers;
         led = g .led;
         onward = λ rs.
-          g .onward rs
-          ∙ ap (before (g .calls) t) (step rs)
-          ∙ (λ i. record { calls = g .calls ++ script o′ left′ rs .calls; text = sym (append-assoc t u (script o′ left′ rs .text)) i })
-          ∙ (λ i. before (g .calls) (sym e i) (script o′ left′ rs));
+            g .onward rs
+            ∙ ap (before (g .calls) t) (step rs)
+            ∙ (λ i. record { calls = g .calls ++ script o′ left′ rs .calls; text = sym (append-assoc t u (script o′ left′ rs .text)) i })
+            ∙ (λ i. before (g .calls) (sym e i) (script o′ left′ rs));
       }
 
 -- ---- each step of a script

@@ -20,20 +20,20 @@ quoted bytes = record { ptr = (0, 0); name = 0; now = bytes }
 
 -- a point that was not filed: a reading that is not taken spoils it
 abbrev pub unfiled : ℕ → Refusal → Line
-unfiled s (refusal.ReadingNotTaken place value) = Spoiled s 5 place value
-unfiled s refusal.ArgumentOutOfLimits = Refused 1
-unfiled s refusal.NoFreePlace = Refused 2
-unfiled s refusal.NoSerialLeft = Refused 3
-unfiled s refusal.PointNotOpen = Refused 4
-unfiled s refusal.SerialNotHeld = Refused 6
-unfiled s refusal.NothingHeld = Refused 7
-unfiled s (refusal.NoAdmissibleLine conflict) = Refused 8
-unfiled s refusal.OneArgument = Refused 9
-unfiled s (refusal.SettingOutOfLimits position) = Refused 10
-unfiled s (refusal.FrameCutShort position) = Refused 11
-unfiled s (refusal.FrameUnknown position) = Refused 12
-unfiled s refusal.NoOpenPoint = Refused 13
-unfiled s refusal.LineNotWritten = Refused 14
+unfiled s (refusal.ReadingNotTaken place value) = Spoiled s (number (refusal.ReadingNotTaken place value)) place value
+unfiled s refusal.ArgumentOutOfLimits = Refused (number refusal.ArgumentOutOfLimits)
+unfiled s refusal.NoFreePlace = Refused (number refusal.NoFreePlace)
+unfiled s refusal.NoSerialLeft = Refused (number refusal.NoSerialLeft)
+unfiled s refusal.PointNotOpen = Refused (number refusal.PointNotOpen)
+unfiled s refusal.SerialNotHeld = Refused (number refusal.SerialNotHeld)
+unfiled s refusal.NothingHeld = Refused (number refusal.NothingHeld)
+unfiled s (refusal.NoAdmissibleLine conflict) = Refused (number (refusal.NoAdmissibleLine conflict))
+unfiled s refusal.OneArgument = Refused (number refusal.OneArgument)
+unfiled s (refusal.SettingOutOfLimits position) = Refused (number (refusal.SettingOutOfLimits position))
+unfiled s (refusal.FrameCutShort position) = Refused (number (refusal.FrameCutShort position))
+unfiled s (refusal.FrameUnknown position) = Refused (number (refusal.FrameUnknown position))
+unfiled s refusal.NoOpenPoint = Refused (number refusal.NoOpenPoint)
+unfiled s refusal.LineNotWritten = Refused (number refusal.LineNotWritten)
 
 -- a call that was refused
 abbrev pub refusing : Call → Refusal → Line

@@ -4,6 +4,8 @@ use mathlib.Core.List.{List, [], _∷_, _++_}
 use Prim.Native.Nat.{ℕ}
 use Rattle.std.specs.declared.option.Option.{Option}
 use Rattle.std.specs.declared.option.Option.the-variants.{Some, None}
+use Rattle.refusal.specs.Numbers.{number}
+use Rattle.refusal.specs.declared.refusal.Refusal.the-variants as refusal
 use Rattle.book.specs.declared.call.Call.{Call}
 use Rattle.book.specs.declared.call.Call.the-variants as call
 use Rattle.book.specs.declared.answer.Answer.{Answer}
@@ -111,13 +113,13 @@ cleared-away false o rs onward = onward o rs
 -- a frame with its call, or without one
 abbrev pub answered : Option Call → List ℕ → List Answer → Onward → Script
 answered (Some c) why rs onward = made c why rs onward
-answered None why rs onward = refused 13 (onward None rs)
+answered None why rs onward = refused (number refusal.NoOpenPoint) (onward None rs)
 
--- what a tape says is dealt with; a frame cut short or unknown ends the run
+-- what a tape says is dealt with; a frame cut short or unknown ends the run, and only the number of its refusal is printed
 abbrev pub dealt : Said → Option Point → List Answer → Onward → Script
 dealt ended o rs onward = done
-dealt cutShort o rs onward = refused 11 done
-dealt unknown o rs onward = refused 12 done
+dealt cutShort o rs onward = refused (number (refusal.FrameCutShort 0)) done
+dealt unknown o rs onward = refused (number (refusal.FrameUnknown 0)) done
 dealt (frame m n) o rs onward = answered (asked o m) (reason m) rs onward
 
 unfoldable pub script : Option Point → List Said → List Answer → Script

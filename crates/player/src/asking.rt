@@ -8,15 +8,15 @@ ghost use Rattle.std.specs.declared.result.Result.the-variants.{Ok};
 ghost use Rattle.channel.specs.Told.{ofVerdict};
 ghost use Rattle.player.specs.Lines.{telling};
 ghost use Rattle.player.specs.Steps.{Made};
+use crate::refusing::refused;
 use channel::channel::Channel;
 use channel::point::Point;
-use crate::refusing::refused;
 use printout::line::Line;
 use questions::verdict::Verdict;
 use stage::stage::Stage;
 
 // The point that is opened at an argument, if it is, and the line of that.
-pub fn load<'a, S: Stage>(channel: &mut Channel<S>, argument: i32) -> (Option<Point>, Line<'a>)
+pub(crate) fn load<'a, S: Stage>(channel: &mut Channel<S>, argument: i32) -> (Option<Point>, Line<'a>)
     ensures number { λ _. ⌜ now (channel .exit) .number ≡ now (channel .entry) .number ⌝ }
     ensures stage { λ _. ⌜ now (channel .exit) .stage ≡ now (channel .entry) .stage ⌝ }
     ensures made { λ r. ⌜ Made (meaning (now (channel .entry) .stage)) (now (channel .entry) .number) (page (now (channel .entry) .register)) (call.Open argument) [] (page (now (channel .exit) .register)) (r .0) (r .1) ⌝ }
@@ -32,7 +32,7 @@ pub fn load<'a, S: Stage>(channel: &mut Channel<S>, argument: i32) -> (Option<Po
 }
 
 // The line of a withdrawal.
-pub fn withdraw<'a, S: Stage>(channel: &mut Channel<S>, serial: u32) -> Line<'a>
+pub(crate) fn withdraw<'a, S: Stage>(channel: &mut Channel<S>, serial: u32) -> Line<'a>
     ensures number { λ _. ⌜ now (channel .exit) .number ≡ now (channel .entry) .number ⌝ }
     ensures stage { λ _. ⌜ now (channel .exit) .stage ≡ now (channel .entry) .stage ⌝ }
     ensures made { λ r. ⌜ Made (meaning (now (channel .entry) .stage)) (now (channel .entry) .number) (page (now (channel .entry) .register)) (call.Withdraw serial) [] (page (now (channel .exit) .register)) None r ⌝ }
@@ -45,7 +45,7 @@ pub fn withdraw<'a, S: Stage>(channel: &mut Channel<S>, serial: u32) -> Line<'a>
 }
 
 // The line of a clearing.
-pub fn clear<'a, S: Stage>(channel: &mut Channel<S>) -> Line<'a>
+pub(crate) fn clear<'a, S: Stage>(channel: &mut Channel<S>) -> Line<'a>
     ensures number { λ _. ⌜ now (channel .exit) .number ≡ now (channel .entry) .number ⌝ }
     ensures stage { λ _. ⌜ now (channel .exit) .stage ≡ now (channel .entry) .stage ⌝ }
     ensures made { λ r. ⌜ Made (meaning (now (channel .entry) .stage)) (now (channel .entry) .number) (page (now (channel .entry) .register)) call.Clear [] (page (now (channel .exit) .register)) None r ⌝ }
@@ -56,7 +56,7 @@ pub fn clear<'a, S: Stage>(channel: &mut Channel<S>) -> Line<'a>
 }
 
 // The line of the tallies.
-pub fn tally<'a, S: Stage>(channel: &Channel<S>) -> Line<'a>
+pub(crate) fn tally<'a, S: Stage>(channel: &Channel<S>) -> Line<'a>
     ensures made { λ r. ⌜ Made (meaning (now (channel .entry) .stage)) (now (channel .entry) .number) (page (now (channel .entry) .register)) call.Tallies [] (page (now (channel .entry) .register)) None r ⌝ }
     ensures reason { λ r. ⌜ reasonOf r ≡ [] ⌝ }
 {
@@ -82,7 +82,7 @@ fn judged<'a>(verdict: Verdict) -> Line<'a>
 }
 
 // The line of the verdict.
-pub fn verdict<'a, S: Stage>(channel: &Channel<S>) -> Line<'a>
+pub(crate) fn verdict<'a, S: Stage>(channel: &Channel<S>) -> Line<'a>
     ensures made { λ r. ⌜ Made (meaning (now (channel .entry) .stage)) (now (channel .entry) .number) (page (now (channel .entry) .register)) call.Verdict [] (page (now (channel .entry) .register)) None r ⌝ }
     ensures reason { λ r. ⌜ reasonOf r ≡ [] ⌝ }
 {
@@ -93,7 +93,7 @@ pub fn verdict<'a, S: Stage>(channel: &Channel<S>) -> Line<'a>
 }
 
 // The line of the least and the greatest slope.
-pub fn slope<'a, S: Stage>(channel: &Channel<S>) -> Line<'a>
+pub(crate) fn slope<'a, S: Stage>(channel: &Channel<S>) -> Line<'a>
     ensures made { λ r. ⌜ Made (meaning (now (channel .entry) .stage)) (now (channel .entry) .number) (page (now (channel .entry) .register)) call.Slope [] (page (now (channel .entry) .register)) None r ⌝ }
     ensures reason { λ r. ⌜ reasonOf r ≡ [] ⌝ }
 {
@@ -104,7 +104,7 @@ pub fn slope<'a, S: Stage>(channel: &Channel<S>) -> Line<'a>
 }
 
 // The line of the least and the greatest value at an argument.
-pub fn value<'a, S: Stage>(channel: &Channel<S>, argument: i32) -> Line<'a>
+pub(crate) fn value<'a, S: Stage>(channel: &Channel<S>, argument: i32) -> Line<'a>
     ensures made { λ r. ⌜ Made (meaning (now (channel .entry) .stage)) (now (channel .entry) .number) (page (now (channel .entry) .register)) (call.Value argument) [] (page (now (channel .entry) .register)) None r ⌝ }
     ensures reason { λ r. ⌜ reasonOf r ≡ [] ⌝ }
 {

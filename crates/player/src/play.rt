@@ -1,13 +1,13 @@
 ghost use mathlib.Core.Path.{_≡_};
 ghost use Rattle.player.specs.Played.{Played, bench};
-use bounded::bounded::Bounded;
-use bounded::ends::BoundedStage;
-use channel::channel::Channel;
-use channel::point::Point;
 use crate::printing::put_line;
 use crate::refusing::refused;
 use crate::turn::interrupt;
 use crate::turn::turn;
+use bounded::bounded::Bounded;
+use bounded::ends::BoundedStage;
+use channel::channel::Channel;
+use channel::point::Point;
 use frames::reader::Reader;
 use refusal::refusal::Refusal;
 use stage::chain::Chain;
@@ -18,7 +18,12 @@ use step::ends::StepStage;
 use step::step::Step;
 
 // Plays a tape on a new channel of that number, on a stage or chain. The printout goes to the front of the buffer: how many bytes it has.
-pub fn play_on<S: Stage + Drop>(number: u16, stage: S, tape: &[u8], out: &mut [u8]) -> Result<usize, Refusal>
+pub fn play_on<S: Stage + Drop>(
+    number: u16,
+    stage: S,
+    tape: &[u8],
+    out: &mut [u8],
+) -> Result<usize, Refusal>
     ensures { λ r. ⌜ Played (meaning stage) number (now (tape .entry)) (now (out .entry)) (now (out .exit)) r ⌝ }
 {
     if out.len() / 80 < tape.len().min(4096) {

@@ -7,7 +7,7 @@ use printout::line::Line;
 use printout::printing::print;
 
 // Prints a line from a place on, and tells the place after it.
-pub fn put_line(line: &Line, out: &mut [u8], at: usize) -> usize
+pub(crate) fn put_line(line: &Line, out: &mut [u8], at: usize) -> usize
     requires { ⌜ at + 80 ≤ length (now out) ⌝ ∗ ⌜ length (reasonOf (now line)) ≤ 15 ⌝ }
     ensures text { λ r. ⌜ take r (now (out .exit)) ≡ take at (now (out .entry)) ++ text (now (line .entry)) ⌝ }
     ensures rest { λ r. ⌜ drop r (now (out .exit)) ≡ drop r (now (out .entry)) ⌝ }

@@ -11,8 +11,6 @@ ghost use Rattle.frames.specs.Answers.{meaning as says};
 ghost use Rattle.printout.specs.Text.{reasonOf};
 ghost use Rattle.player.specs.Script.{interrupts, reason as reasonIn, asked};
 ghost use Rattle.player.specs.Steps.{Made, Reached, Plain, owed, brings};
-use channel::channel::Channel;
-use channel::point::Point;
 use crate::asking::clear;
 use crate::asking::load;
 use crate::asking::slope;
@@ -24,13 +22,20 @@ use crate::ending::abort;
 use crate::ending::file;
 use crate::printing::put_line;
 use crate::refusing::refused;
+use channel::channel::Channel;
+use channel::point::Point;
 use frames::frame::Frame;
 use printout::line::Line;
 use refusal::refusal::Refusal;
 use stage::stage::Stage;
 
 // Aborts the point that is open, if one is, for an empty reason: neither its reading nor an abort comes next.
-pub fn interrupt<S: Stage>(channel: &mut Channel<S>, pending: Option<Point>, out: &mut [u8], at: usize) -> usize
+pub(crate) fn interrupt<S: Stage>(
+    channel: &mut Channel<S>,
+    pending: Option<Point>,
+    out: &mut [u8],
+    at: usize,
+) -> usize
     requires { ⌜ at + owed pending ≤ length (now out) ⌝ }
     ensures number { λ _. ⌜ now (channel .exit) .number ≡ now (channel .entry) .number ⌝ }
     ensures stage { λ _. ⌜ now (channel .exit) .stage ≡ now (channel .entry) .stage ⌝ }
@@ -47,7 +52,13 @@ pub fn interrupt<S: Stage>(channel: &mut Channel<S>, pending: Option<Point>, out
 }
 
 // The reading of the open point; refused where none is open.
-fn read<S: Stage>(channel: &mut Channel<S>, pending: Option<Point>, reading: i32, out: &mut [u8], at: usize) -> usize
+fn read<S: Stage>(
+    channel: &mut Channel<S>,
+    pending: Option<Point>,
+    reading: i32,
+    out: &mut [u8],
+    at: usize,
+) -> usize
     requires { ⌜ at + 80 ≤ length (now out) ⌝ }
     ensures number { λ _. ⌜ now (channel .exit) .number ≡ now (channel .entry) .number ⌝ }
     ensures stage { λ _. ⌜ now (channel .exit) .stage ≡ now (channel .entry) .stage ⌝ }
@@ -65,7 +76,13 @@ fn read<S: Stage>(channel: &mut Channel<S>, pending: Option<Point>, reading: i32
 }
 
 // The abort of the open point; refused where none is open.
-fn give_up<S: Stage>(channel: &mut Channel<S>, pending: Option<Point>, reason: &[u8], out: &mut [u8], at: usize) -> usize
+fn give_up<S: Stage>(
+    channel: &mut Channel<S>,
+    pending: Option<Point>,
+    reason: &[u8],
+    out: &mut [u8],
+    at: usize,
+) -> usize
     requires { ⌜ at + 80 ≤ length (now out) ⌝ ∗ ⌜ length (now reason) ≤ 15 ⌝ }
     ensures number { λ _. ⌜ now (channel .exit) .number ≡ now (channel .entry) .number ⌝ }
     ensures stage { λ _. ⌜ now (channel .exit) .stage ≡ now (channel .entry) .stage ⌝ }
@@ -103,7 +120,13 @@ fn ask<'a, S: Stage>(channel: &mut Channel<S>, frame: Frame<'a>) -> Line<'a>
 }
 
 // Deals with a frame: tells the point that is open after it, and the place after its lines.
-pub fn turn<'a, S: Stage>(channel: &mut Channel<S>, pending: Option<Point>, frame: Frame<'a>, out: &mut [u8], at: usize) -> (Option<Point>, usize)
+pub(crate) fn turn<'a, S: Stage>(
+    channel: &mut Channel<S>,
+    pending: Option<Point>,
+    frame: Frame<'a>,
+    out: &mut [u8],
+    at: usize,
+) -> (Option<Point>, usize)
     requires { ⌜ at + owed pending + brings (says frame) ≤ length (now out) ⌝ ∗ ⌜ length (reasonIn (says frame)) ≤ 15 ⌝ }
     ensures number { λ _. ⌜ now (channel .exit) .number ≡ now (channel .entry) .number ⌝ }
     ensures stage { λ _. ⌜ now (channel .exit) .stage ≡ now (channel .entry) .stage ⌝ }

@@ -11,6 +11,7 @@ use std::io::Write;
 
 // How many bytes of a tape are read, and room for the printout of so many.
 const TAPE: usize = 4_096;
+
 const ROOM: usize = 327_680;
 
 // Reads from a source until it ends or the tape is full, and tells how many bytes there are.

@@ -21,5 +21,5 @@ returns c =
     let s = c .standard-chain .result .upper .size in
     let e = c .standard-chain .result .lower .absolute in
     subst (λ d. Played (chain 10 20 d) 0 tape out out′ r) (made .relative)
-      (subst (λ e. Played (chain 10 e (c .standard-chain .result .lower .relative)) 0 tape out out′ r) (made .absolute)
-        (subst (λ s. Played (chain s (c .standard-chain .result .lower .absolute) (c .standard-chain .result .lower .relative)) 0 tape out out′ r) (made .step) (c .play-on .ensures)))
+    (subst (λ e. Played (chain 10 e (c .standard-chain .result .lower .relative)) 0 tape out out′ r) (made .absolute)
+    (subst (λ s. Played (chain s (c .standard-chain .result .lower .absolute) (c .standard-chain .result .lower .relative)) 0 tape out out′ r) (made .step) (c .play-on .ensures)))

@@ -42,9 +42,10 @@ put-line-requires g c κs =
     let p = c .loop-frame .reader .position in
     let inv = c .loop-frame .inv in
     let s = said (drop p tape) in
-    let ends = refusal-read p (c .loop-frame .reader .tape .now) tape (inv .1) (c .in-Err .refusal) (c .in-Err .ensures tt .answer) in
-    (omega (arith, inv .0 .room, some-left tape p (ends .goes), c .interrupt-at .ensures .room, c .loop-frame .kept .out, c .interrupt-at .kept .out),
-     omega (arith, ap (λ l. length (reasonOf l)) (c .refused-line .ensures)))
+    let ends = refusal-read p (c .loop-frame .reader .tape .now) tape (inv .1) (c .in-Err .refusal) (c .in-Err .ensures tt .answer) in (
+      omega (arith, inv .0 .room, some-left tape p (ends .goes), c .interrupt-at .ensures .room, c .loop-frame .kept .out, c .interrupt-at .kept .out),
+      omega (arith, ap (λ l. length (reasonOf l)) (c .refused-line .ensures)),
+    )
 
 pub returns-in-Err : need.returns-in-Err
 returns-in-Err g c =
@@ -64,18 +65,19 @@ returns-in-Err g c =
     let t2 = take (c .put-line .result) (c .put-line .last .out) in
     let here = subst (λ left. Reached (g .S·Stage .meaning (c .new-channel .result .stage)) (c .new-channel .result .number) all o left b t) (sayings-at (drop p tape)) (inv .0 .reached) in
     let run = subst (λ n. Reached (g .S·Stage .meaning (c .new-channel .result .stage)) n all o (s ∷ ss) b t → Reached (g .S·Stage .meaning (c .new-channel .result .stage)) n all None (s ∷ ss) b1 t1) (inv .3)
-          (subst (λ m. Reached (g .S·Stage .meaning m) (channel .number) all o (s ∷ ss) b t → Reached (g .S·Stage .meaning m) (channel .number) all None (s ∷ ss) b1 t1) (inv .2)
-            (c .interrupt-at .ensures .run all ss s (ends .stops))) in
+    (subst (λ m. Reached (g .S·Stage .meaning m) (channel .number) all o (s ∷ ss) b t → Reached (g .S·Stage .meaning m) (channel .number) all None (s ∷ ss) b1 t1) (inv .2)
+    (c .interrupt-at .ensures .run all ss s (ends .stops))) in
     let last = refused-on (g .S·Stage .meaning (c .new-channel .result .stage)) (c .new-channel .result .number) all None None (s ∷ ss) [] b1 t1 t2 (text (Refused (number (c .in-Err .refusal)))) (ends .script-is ss)
-          (c .put-line .ensures .text ∙ ap (λ l. t1 ++ text l) (c .refused-line .ensures)) (run here) in
-    let printed = over (g .S·Stage .meaning (c .new-channel .result .stage)) (c .new-channel .result .number) (c .args .tape .now) [] b1 t2 none-left (subst (λ x. Reached (g .S·Stage .meaning (c .new-channel .result .stage)) (c .new-channel .result .number) (sayings 0 x) None [] b1 t2) (c .new-reader .ensures .tape) last) in
-    (omega (arith, length-take 4096 (c .args .tape .now)),
-     omega (arith, inv .0 .room, some-left tape p (ends .goes), c .interrupt-at .ensures .room, c .put-line .ensures .room),
-     subst (λ m. Printout (g .S·Stage .meaning m) (c .args .number) (c .args .tape .now) t2) (c .new-channel .ensures .stage)
-       (subst (λ n. Printout (g .S·Stage .meaning (c .new-channel .result .stage)) n (c .args .tape .now) t2) (c .new-channel .ensures .number) printed),
-     c .put-line .ensures .rest
-       ∙ rest-later (c .interrupt-at .last .out) (c .loop-frame .out) (c .interrupt-at .result) (c .put-line .result) (c .put-line .ensures .after) (c .interrupt-at .ensures .rest)
-       ∙ rest-later (c .loop-frame .out) (c .args .out .now) (c .loop-frame .at) (c .put-line .result) (omega (arith, c .interrupt-at .ensures .after, c .put-line .ensures .after)) (inv .0 .rest))
+    (c .put-line .ensures .text ∙ ap (λ l. t1 ++ text l) (c .refused-line .ensures)) (run here) in
+    let printed = over (g .S·Stage .meaning (c .new-channel .result .stage)) (c .new-channel .result .number) (c .args .tape .now) [] b1 t2 none-left (subst (λ x. Reached (g .S·Stage .meaning (c .new-channel .result .stage)) (c .new-channel .result .number) (sayings 0 x) None [] b1 t2) (c .new-reader .ensures .tape) last) in (
+      omega (arith, length-take 4096 (c .args .tape .now)),
+      omega (arith, inv .0 .room, some-left tape p (ends .goes), c .interrupt-at .ensures .room, c .put-line .ensures .room),
+      subst (λ m. Printout (g .S·Stage .meaning m) (c .args .number) (c .args .tape .now) t2) (c .new-channel .ensures .stage)
+          (subst (λ n. Printout (g .S·Stage .meaning (c .new-channel .result .stage)) n (c .args .tape .now) t2) (c .new-channel .ensures .number) printed),
+      c .put-line .ensures .rest
+          ∙ rest-later (c .interrupt-at .last .out) (c .loop-frame .out) (c .interrupt-at .result) (c .put-line .result) (c .put-line .ensures .after) (c .interrupt-at .ensures .rest)
+          ∙ rest-later (c .loop-frame .out) (c .args .out .now) (c .loop-frame .at) (c .put-line .result) (omega (arith, c .interrupt-at .ensures .after, c .put-line .ensures .after)) (inv .0 .rest),
+    )
 
 pub returns-in-rest : need.returns-in-rest
 returns-in-rest g c =
@@ -94,15 +96,16 @@ returns-in-rest g c =
     let t1 = take (c .interrupt .result) (c .interrupt .last .out) in
     let here = subst (λ left. Reached (g .S·Stage .meaning (c .new-channel .result .stage)) (c .new-channel .result .number) all o left b t) (sayings-at (drop p tape)) (inv .0 .reached) in
     let run = subst (λ n. Reached (g .S·Stage .meaning (c .new-channel .result .stage)) n all o (s ∷ ss) b t → Reached (g .S·Stage .meaning (c .new-channel .result .stage)) n all None (s ∷ ss) b1 t1) (inv .3)
-          (subst (λ m. Reached (g .S·Stage .meaning m) (channel .number) all o (s ∷ ss) b t → Reached (g .S·Stage .meaning m) (channel .number) all None (s ∷ ss) b1 t1) (inv .2)
-            (c .interrupt .ensures .run all ss s (ap interrupts e))) in
-    let printed = over (g .S·Stage .meaning (c .new-channel .result .stage)) (c .new-channel .result .number) (c .args .tape .now) (s ∷ ss) b1 t1 (none-after s ss e) (subst (λ x. Reached (g .S·Stage .meaning (c .new-channel .result .stage)) (c .new-channel .result .number) (sayings 0 x) None (s ∷ ss) b1 t1) (c .new-reader .ensures .tape) (run here)) in
-    (omega (arith, length-take 4096 (c .args .tape .now)),
-     omega (arith, inv .0 .room, c .interrupt .ensures .room),
-     subst (λ m. Printout (g .S·Stage .meaning m) (c .args .number) (c .args .tape .now) t1) (c .new-channel .ensures .stage)
-       (subst (λ n. Printout (g .S·Stage .meaning (c .new-channel .result .stage)) n (c .args .tape .now) t1) (c .new-channel .ensures .number) printed),
-     c .interrupt .ensures .rest
-       ∙ rest-later (c .loop-frame .out) (c .args .out .now) (c .loop-frame .at) (c .interrupt .result) (c .interrupt .ensures .after) (inv .0 .rest))
+    (subst (λ m. Reached (g .S·Stage .meaning m) (channel .number) all o (s ∷ ss) b t → Reached (g .S·Stage .meaning m) (channel .number) all None (s ∷ ss) b1 t1) (inv .2)
+    (c .interrupt .ensures .run all ss s (ap interrupts e))) in
+    let printed = over (g .S·Stage .meaning (c .new-channel .result .stage)) (c .new-channel .result .number) (c .args .tape .now) (s ∷ ss) b1 t1 (none-after s ss e) (subst (λ x. Reached (g .S·Stage .meaning (c .new-channel .result .stage)) (c .new-channel .result .number) (sayings 0 x) None (s ∷ ss) b1 t1) (c .new-reader .ensures .tape) (run here)) in (
+      omega (arith, length-take 4096 (c .args .tape .now)),
+      omega (arith, inv .0 .room, c .interrupt .ensures .room),
+      subst (λ m. Printout (g .S·Stage .meaning m) (c .args .number) (c .args .tape .now) t1) (c .new-channel .ensures .stage)
+          (subst (λ n. Printout (g .S·Stage .meaning (c .new-channel .result .stage)) n (c .args .tape .now) t1) (c .new-channel .ensures .number) printed),
+      c .interrupt .ensures .rest
+          ∙ rest-later (c .loop-frame .out) (c .args .out .now) (c .loop-frame .at) (c .interrupt .result) (c .interrupt .ensures .after) (inv .0 .rest),
+    )
 
 pub turn-point-requires : need.turn-point-requires
 turn-point-requires g c κs =
@@ -153,13 +156,14 @@ loop-frame-again g c =
     let t1 = take (c .turn-point .result .1) (c .turn-point .last .out) in
     let here = subst (λ left. Reached (g .S·Stage .meaning (c .new-channel .result .stage)) (c .new-channel .result .number) all o left b t) (sayings-frame tape p k (meaning f) e) (inv .0 .reached) in
     let run = subst (λ n. Reached (g .S·Stage .meaning (c .new-channel .result .stage)) n all o (frame (meaning f) k ∷ ss) b t → Reached (g .S·Stage .meaning (c .new-channel .result .stage)) n all o1 ss b1 t1) (inv .3)
-          (subst (λ m. Reached (g .S·Stage .meaning m) (channel .number) all o (frame (meaning f) k ∷ ss) b t → Reached (g .S·Stage .meaning m) (channel .number) all o1 ss b1 t1) (inv .2)
-            (c .turn-point .ensures .run all ss k)) in
-    (record {
-       reached = subst (λ q. Reached (g .S·Stage .meaning (c .new-channel .result .stage)) (c .new-channel .result .number) all o1 (sayings 0 (drop q tape)) b1 t1) (sym place) (run here);
-       rest = c .turn-point .ensures .rest ∙ rest-later (c .loop-frame .out) (c .args .out .now) (c .loop-frame .at) (c .turn-point .result .1) (c .turn-point .ensures .after) (inv .0 .rest);
-       room = omega (arith, inv .0 .room, c .turn-point .ensures .room, fine .0, place);
-     },
-     c .in-Ok .ensures tt .tape ∙ inv .1,
-     c .turn-point .ensures .stage ∙ inv .2,
-     c .turn-point .ensures .number ∙ inv .3)
+    (subst (λ m. Reached (g .S·Stage .meaning m) (channel .number) all o (frame (meaning f) k ∷ ss) b t → Reached (g .S·Stage .meaning m) (channel .number) all o1 ss b1 t1) (inv .2)
+    (c .turn-point .ensures .run all ss k)) in (
+      record {
+        reached = subst (λ q. Reached (g .S·Stage .meaning (c .new-channel .result .stage)) (c .new-channel .result .number) all o1 (sayings 0 (drop q tape)) b1 t1) (sym place) (run here);
+        rest = c .turn-point .ensures .rest ∙ rest-later (c .loop-frame .out) (c .args .out .now) (c .loop-frame .at) (c .turn-point .result .1) (c .turn-point .ensures .after) (inv .0 .rest);
+        room = omega (arith, inv .0 .room, c .turn-point .ensures .room, fine .0, place);
+      },
+      c .in-Ok .ensures tt .tape ∙ inv .1,
+      c .turn-point .ensures .stage ∙ inv .2,
+      c .turn-point .ensures .number ∙ inv .3,
+    )

@@ -22,6 +22,6 @@ unreachable-requires c κs =
 pub returns : need.returns
 returns c =
     let e = put (c .args .line .now) (c .args .out .now) (c .print .last .buffer) (c .args .at) (c .in-Ok .length) (c .pre .0) (c .pre .1)
-              (c .in-Ok .ensures tt .answer) (c .in-Ok .ensures tt .bytes) in
+    (c .in-Ok .ensures tt .answer) (c .in-Ok .ensures tt .bytes) in
     let few = c .in-Ok .ensures tt .room in
     record { text = e .0; rest = e .1; after = omega arith; room = omega arith }

@@ -40,7 +40,7 @@ returns g c =
       after = c .put-line .ensures .after;
       room = omega (arith, ap owed e);
       run = λ all ss s stop reached.
-        made-on (g .S·Stage .meaning (c .args .channel .now .stage)) (c .args .channel .now .number) all (Some p) None (s ∷ ss) (s ∷ ss) _ _ (take (c .args .at) (c .args .out .now)) _ (giving-up p) [] (c .abort-line .result)
+          made-on (g .S·Stage .meaning (c .args .channel .now .stage)) (c .args .channel .now .number) all (Some p) None (s ∷ ss) (s ∷ ss) _ _ (take (c .args .at) (c .args .out .now)) _ (giving-up p) [] (c .abort-line .result)
           (interrupted p s ss stop) made (c .put-line .ensures .text)
           (subst (λ o. Reached (g .S·Stage .meaning (c .args .channel .now .stage)) (c .args .channel .now .number) all o (s ∷ ss) (page (c .args .channel .now .register)) (take (c .args .at) (c .args .out .now))) e reached);
     }

@@ -28,7 +28,7 @@ returns-in-rest g c =
       after = c .put-line .ensures .after;
       room = c .put-line .ensures .room;
       run = λ all ss k reached.
-        refused-on (g .S·Stage .meaning (c .args .channel .now .stage)) (c .args .channel .now .number) all None None (frame (reading (c .args .reading)) k ∷ ss) ss _ (take (c .args .at) (c .args .out .now)) _ (text (Refused 13))
+          refused-on (g .S·Stage .meaning (c .args .channel .now .stage)) (c .args .channel .now .number) all None None (frame (reading (c .args .reading)) k ∷ ss) ss _ (take (c .args .at) (c .args .out .now)) _ (text (Refused 13))
           (unread (c .args .reading) k ss) (c .put-line .ensures .text ∙ ap (λ l. take (c .args .at) (c .args .out .now) ++ text l) (c .refused-passed .ensures))
           (subst (λ o. Reached (g .S·Stage .meaning (c .args .channel .now .stage)) (c .args .channel .now .number) all o (frame (reading (c .args .reading)) k ∷ ss) (page (c .args .channel .now .register)) (take (c .args .at) (c .args .out .now))) e reached);
     }
@@ -44,7 +44,7 @@ returns g c =
       after = c .put-line-2 .ensures .after;
       room = c .put-line-2 .ensures .room;
       run = λ all ss k reached.
-        made-on (g .S·Stage .meaning (c .args .channel .now .stage)) (c .args .channel .now .number) all (Some p) None (frame (reading (c .args .reading)) k ∷ ss) ss _ _ (take (c .args .at) (c .args .out .now)) _ (call.File (p .number) (p .serial) (c .args .reading)) [] (c .file-line .result)
+          made-on (g .S·Stage .meaning (c .args .channel .now .stage)) (c .args .channel .now .number) all (Some p) None (frame (reading (c .args .reading)) k ∷ ss) ss _ _ (take (c .args .at) (c .args .out .now)) _ (call.File (p .number) (p .serial) (c .args .reading)) [] (c .file-line .result)
           (λ r rs. filed p (c .args .reading) k ss r rs None) (let f = c .fits .reading in simp toZ-ofZ at (c .file-line .ensures .made)) (c .put-line-2 .ensures .text)
           (subst (λ o. Reached (g .S·Stage .meaning (c .args .channel .now .stage)) (c .args .channel .now .number) all o (frame (reading (c .args .reading)) k ∷ ss) (page (c .args .channel .now .register)) (take (c .args .at) (c .args .out .now))) e reached);
     }

@@ -30,7 +30,7 @@ returns-in-Reading g c =
       after = here .after;
       room = omega (arith, here .room, ap (λ f. brings (meaning f)) e);
       run = λ all ss k reached. here .run all ss k
-        (subst (λ x. Reached (g .S·Stage .meaning (c .args .channel .now .stage)) (c .args .channel .now .number) all (c .args .pending) (frame (reading x) k ∷ ss) (page (c .args .channel .now .register)) (take (c .args .at) (c .args .out .now))) (sym (toZ-ofZ w32 (c .in-Reading .reading) f))
+          (subst (λ x. Reached (g .S·Stage .meaning (c .args .channel .now .stage)) (c .args .channel .now .number) all (c .args .pending) (frame (reading x) k ∷ ss) (page (c .args .channel .now .register)) (take (c .args .at) (c .args .out .now))) (sym (toZ-ofZ w32 (c .in-Reading .reading) f))
           (subst (λ f. Reached (g .S·Stage .meaning (c .args .channel .now .stage)) (c .args .channel .now .number) all (c .args .pending) (frame (meaning f) k ∷ ss) (page (c .args .channel .now .register)) (take (c .args .at) (c .args .out .now))) e reached));
     }
 
@@ -65,10 +65,10 @@ returns-in-Load g c =
       after = omega (arith, first .after, c .put-line .ensures .after);
       room = omega (arith, first .room, c .put-line .ensures .room, owed-few point, ap (λ f. brings (meaning f)) e);
       run = λ all ss k reached.
-        made-on (g .S·Stage .meaning (c .args .channel .now .stage)) (c .args .channel .now .number) all None point (frame (load x) k ∷ ss) ss (page (channel .register)) there (take (c .interrupt-at .result) out) _ (call.Open x) [] line
+          made-on (g .S·Stage .meaning (c .args .channel .now .stage)) (c .args .channel .now .number) all None point (frame (load x) k ∷ ss) ss (page (channel .register)) there (take (c .interrupt-at .result) out) _ (call.Open x) [] line
           (λ r rs. called (load x) (call.Open x) refl k ss r rs point)
           (subst (λ n. Made (g .S·Stage .meaning (c .args .channel .now .stage)) n (page (channel .register)) (call.Open x) [] there point line) (first .number)
-            (subst (λ s. Made (g .S·Stage .meaning s) (channel .number) (page (channel .register)) (call.Open x) [] there point line) (first .stage) (subst (λ y. Made (g .S·Stage .meaning (channel .stage)) (channel .number) (page (channel .register)) (call.Open y) [] there point line) (toZ-ofZ w32 x f) (c .load-point .ensures .made))))
+          (subst (λ s. Made (g .S·Stage .meaning s) (channel .number) (page (channel .register)) (call.Open x) [] there point line) (first .stage) (subst (λ y. Made (g .S·Stage .meaning (channel .stage)) (channel .number) (page (channel .register)) (call.Open y) [] there point line) (toZ-ofZ w32 x f) (c .load-point .ensures .made))))
           (c .put-line .ensures .text)
           (first .run all ss (frame (load x) k) refl (subst (λ f. Reached (g .S·Stage .meaning (c .args .channel .now .stage)) (c .args .channel .now .number) all (c .args .pending) (frame (meaning f) k ∷ ss) (page (c .args .channel .now .register)) (take (c .args .at) (c .args .out .now))) e reached));
     }
@@ -90,10 +90,10 @@ returns-in-rest g c =
       after = omega (arith, first .after, c .put-line-in-rest .ensures .after);
       room = omega (arith, first .room, c .put-line-in-rest .ensures .room, plain .one-line);
       run = λ all ss k reached.
-        made-on (g .S·Stage .meaning (c .args .channel .now .stage)) (c .args .channel .now .number) all None None (frame m k ∷ ss) ss (page (channel .register)) there (take (c .interrupt-at-in-rest .result) out) _ asked [] line
+          made-on (g .S·Stage .meaning (c .args .channel .now .stage)) (c .args .channel .now .number) all None None (frame m k ∷ ss) ss (page (channel .register)) there (take (c .interrupt-at-in-rest .result) out) _ asked [] line
           (λ r rs e. called m asked (plain .asks) k ss r rs None e ∙ ap (λ why. before (asked ∷ []) (text (telling asked why r)) (script None ss rs)) (plain .no-reason))
           (subst (λ n. Made (g .S·Stage .meaning (c .args .channel .now .stage)) n (page (channel .register)) asked [] there None line) (first .number)
-            (subst (λ s. Made (g .S·Stage .meaning s) (channel .number) (page (channel .register)) asked [] there None line) (first .stage) (c .ask-line .ensures .made asked (plain .asks))))
+          (subst (λ s. Made (g .S·Stage .meaning s) (channel .number) (page (channel .register)) asked [] there None line) (first .stage) (c .ask-line .ensures .made asked (plain .asks))))
           (c .put-line-in-rest .ensures .text)
           (first .run all ss (frame m k) (plain .stops k) reached);
     }
