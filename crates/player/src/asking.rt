@@ -16,7 +16,10 @@ use questions::verdict::Verdict;
 use stage::stage::Stage;
 
 // The point that is opened at an argument, if it is, and the line of that.
-pub(crate) fn load<'a, S: Stage>(channel: &mut Channel<S>, argument: i32) -> (Option<Point>, Line<'a>)
+pub(crate) fn load<'a, S: Stage>(
+    channel: &mut Channel<S>,
+    argument: i32,
+) -> (Option<Point>, Line<'a>)
     ensures number { λ _. ⌜ now (channel .exit) .number ≡ now (channel .entry) .number ⌝ }
     ensures stage { λ _. ⌜ now (channel .exit) .stage ≡ now (channel .entry) .stage ⌝ }
     ensures made { λ r. ⌜ Made (meaning (now (channel .entry) .stage)) (now (channel .entry) .number) (page (now (channel .entry) .register)) (call.Open argument) [] (page (now (channel .exit) .register)) (r .0) (r .1) ⌝ }

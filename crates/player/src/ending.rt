@@ -33,7 +33,11 @@ pub(crate) fn file<'a, S: Stage>(channel: &mut Channel<S>, point: Point, reading
 }
 
 // The line of a point that is aborted, for a reason.
-pub(crate) fn abort<'a, S: Stage>(channel: &mut Channel<S>, point: Point, reason: &'a [u8]) -> Line<'a>
+pub(crate) fn abort<'a, S: Stage>(
+    channel: &mut Channel<S>,
+    point: Point,
+    reason: &'a [u8],
+) -> Line<'a>
     requires { ⌜ length (now reason) ≤ 15 ⌝ }
     ensures number { λ _. ⌜ now (channel .exit) .number ≡ now (channel .entry) .number ⌝ }
     ensures stage { λ _. ⌜ now (channel .exit) .stage ≡ now (channel .entry) .stage ⌝ }
