@@ -44,13 +44,28 @@ fn play_from(rt: &LibcRuntime, source: &mut impl Read) -> Result<(), AnyError> {
     Ok(())
 }
 
+// Plays the tape in a file.
+fn play_file(rt: &LibcRuntime, path: &str) -> Result<(), AnyError> {
+    match fs::open(rt, path) {
+        Ok(mut file) => play_from(rt, &mut file),
+        Err(error) => {
+            let message = format!(rt.alloc(), "{path} cannot be read: {error}")?;
+            Err(message.into())
+        }
+    }
+}
+
 fn run(rt: &LibcRuntime) -> Result<(), AnyError> {
     match env::args(rt)?.nth(1) {
-        Some(path) => play_from(rt, &mut fs::open(rt, path.as_str())?),
+        Some(path) => play_file(rt, path.as_str()),
         None => play_from(rt, &mut rt.stdin()),
     }
 }
 
 fn main(rt: LibcRuntime) -> Result<(), AnyError> {
-    rt.report(run(&rt))
+    let played = run(&rt);
+    if let Err(error) = &played {
+        eprintln!(rt, "tape: {error}")?;
+    }
+    played
 }
