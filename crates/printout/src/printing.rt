@@ -15,12 +15,6 @@ use crate::put::put_byte;
 use crate::put::put_words;
 use refusal::refusal::Refusal;
 
-// The bytes that a buffer has at least.
-const ROOM: usize = 80;
-
-// The bytes that a reason has at most.
-const LONGEST: usize = 15;
-
 // All of a line but its last byte.
 fn put_body(buffer: &mut [u8], line: &Line) -> usize
     requires { ⌜ 80 ≤ length (now buffer) ⌝ ∗ ⌜ length (reasonOf (now line)) ≤ 15 ⌝ }
@@ -101,6 +95,10 @@ pub fn print(line: &Line, buffer: &mut [u8]) -> Result<usize, Refusal>
     ensures room { λ r. ⌜ made r (λ n. n ≤ 80) ⌝ }
     ensures numbers { λ _. ⌜ ReadsBack ⌝ }
 {
+    // The bytes that a buffer has at least.
+    const ROOM: usize = 80;
+    // The bytes that a reason has at most.
+    const LONGEST: usize = 15;
     if buffer.len() < ROOM {
         return Err(Refusal::LineNotWritten);
     }

@@ -13,9 +13,6 @@ use refusal::refusal::Refusal;
 use stage::measure::measure;
 use stage::stage::Stage;
 
-// The last serial that is given.
-const LAST_SERIAL: u32 = 200_000_000;
-
 impl Register {
     // A register with nothing in it.
     pub fn new() -> Register
@@ -38,6 +35,8 @@ impl Register {
         ensures page { λ _. ⌜ page (now (self .exit)) ≡ opens-next (page (now (self .entry))) (argument .value) ⌝ }
         ensures told { λ r. ⌜ r ≡ opens-told (page (now (self .entry))) ⌝ }
     {
+        // The last serial that is given.
+        const LAST_SERIAL: u32 = 200_000_000;
         let Some(i) = self.places.first(Status::Free) else {
             return Err(Refusal::NoFreePlace);
         };
