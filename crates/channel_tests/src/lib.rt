@@ -1,4 +1,6 @@
 // Examples of whole runs of a channel on a stage with the absolute limit 5 and no relative one.
+#![tactic(auto)]
+
 #[cfg(test)]
 mod tests {
     use book::answer::Answer;

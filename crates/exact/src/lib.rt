@@ -1,4 +1,6 @@
 // Exact numbers: division that rounds down or up, one order for every kind of value, fractions, arguments and uncertainty sets.
+#![tactic(auto)]
+
 pub mod argument;
 pub mod arguments;
 pub mod division;

@@ -1,3 +1,5 @@
+#![tactic(auto)]
+
 ghost use Rattle.std.specs.Prelude.{◌≡◌, pos, negsuc, Ok, Err};
 ghost use Rattle.refusal.specs.declared.refusal.Refusal.TheVariants.{ReadingNotTaken};
 ghost use Rattle.figures.specs.Figures.{LineFigures, TallyFigures};

@@ -1,4 +1,6 @@
 // The 64 places of a register.
+#![tactic(auto)]
+
 pub mod place;
 pub mod sample;
 pub mod samples;

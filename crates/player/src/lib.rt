@@ -1,4 +1,6 @@
 // The player: a whole tape into a whole printout.
+#![tactic(auto)]
+
 mod asking;
 mod ending;
 pub mod play;

@@ -1,4 +1,6 @@
 // The three questions about the lines through what the places hold.
+#![tactic(auto)]
+
 mod apart;
 pub mod ask;
 mod conflicts;

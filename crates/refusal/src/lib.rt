@@ -1,4 +1,6 @@
 // Why a call was refused.
+#![tactic(auto)]
+
 pub mod conflict;
 pub mod numbers;
 pub mod refusal;

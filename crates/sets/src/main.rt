@@ -1,4 +1,6 @@
 // Tells the uncertainty set of each reading on standard input, one to a line, or why the chain of the bench does not take it.
+#![tactic(auto)]
+
 use bounded::bounded::Bounded;
 use refusal::refusal::Refusal;
 use stage::chain::Chain;

@@ -1,4 +1,6 @@
 // Examples of what the stages answer and refuse.
+#![tactic(auto)]
+
 #[cfg(test)]
 mod tests {
     use band::band::Band;

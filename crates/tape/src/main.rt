@@ -1,4 +1,6 @@
 // Plays a tape from standard input, or from the file that is named first, and writes its printout to standard output.
+#![tactic(auto)]
+
 ghost use Rattle.std.specs.Prelude.{◌≤◌, length, IfOk};
 
 use anyhow::anyhow;

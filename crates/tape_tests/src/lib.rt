@@ -1,4 +1,6 @@
 // Tapes and their printouts.
+#![tactic(auto)]
+
 #[cfg(test)]
 mod tests {
     use player::play::play;
