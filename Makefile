@@ -3,12 +3,10 @@
 .PHONY: run sets test
 
 run:
-	rt check tape
-	target/bin/tape < crates/tape/stdin
+	cd crates/tape && rt run < stdin
 
 sets:
-	rt check sets
-	target/bin/sets < crates/sets/stdin
+	cd crates/sets && rt run < stdin
 
 test:
 	bash .ci/run

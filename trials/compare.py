@@ -1,7 +1,7 @@
 #!/usr/bin/env python3
 """Plays random tapes with the tape program and compares every line with a slow evaluator that tests every pair and every triple.
 
-    python3 trials/compare.py [TAPES] [SEED]      after `make run`, which builds target/bin/tape
+    python3 trials/compare.py [TAPES] [SEED]      after `make run`, which builds crates/tape/out/tape
 
 The slow evaluator shares nothing with the program: readings, places and tallies in plain lists, lines as vertices of what is admissible,
 all numbers exact fractions. Of a conflict it checks that the named serials are held, rise and conflict, and that a third is named only
@@ -235,7 +235,7 @@ def main():
     for k in range(tapes):
         frames = tape(rng)
         data = b''.join(encode(*f) for f in frames)
-        lines = subprocess.run(['target/bin/tape'], input=data, capture_output=True, check=True).stdout.decode().splitlines()
+        lines = subprocess.run(['crates/tape/out/tape'], input=data, capture_output=True, check=True).stdout.decode().splitlines()
         want = expected(frames)
         if len(lines) != len(want) or not all(map(same, lines, want)):
             print(f'tape {k} differs: {data.hex(" ")}')

@@ -174,7 +174,7 @@ module _ (zs : List ℤ) where
 
   abbrev pub gain : List (Expr × Expr × Expr) → Expr
   gain [] = con (pos 0)
-  gain (f ∷ fs) = ((f.2 ⊖ f).1 ⊗ f).0 ⊕ gain fs
+  gain (f ∷ fs) = (f.2 ⊖ f.1) ⊗ f.0 ⊕ gain fs
 
   gain_is : (fs : List (Expr × Expr × Expr)) → Facts fs → pos 0 ≤ℤ value zs (gain fs)
   gain_is [] h = omega (arith, linear)

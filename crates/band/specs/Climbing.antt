@@ -1,11 +1,10 @@
 -- The ends of the row that is found rise with the reading.
-use Rattle.std.specs.Prelude.{◌≡◌, ℕ, zero, suc, ◌-◌, ◌<◌, ◌≤◌, Bool, true, false, cond, not, ◌&&◌, ◌||◌, List, [], ◌∷◌, length, ℤ, ◌≤ℤ◌, fold, nat_lt, refl}
+use Rattle.std.specs.Prelude.{◌≡◌, ℕ, suc, ◌-◌, ◌<◌, Bool, true, false, cond, not, ◌&&◌, ◌||◌, List, [], ◌∷◌, length, ℤ, ◌≤ℤ◌, fold, nat_lt, refl}
 use Rattle.std.proofs.Common.{sym, ap, ◌∙◌, subst, arith}
-use Rattle.std.specs.Int.Signed.{le_z, lt_z}
-use Rattle.std.specs.List.{AllByRecursion as All}
+use Rattle.std.specs.Int.Signed.{le_z}
 use Rattle.std.proofs.lemmas.Int.{ints}
 use Rattle.std.proofs.lemmas.Bool.Decides.{nat_tests}
-use Rattle.algebra.proofs.Ring.{linear, le_test, test_le, test_gt}
+use Rattle.algebra.proofs.Ring.{linear, le_test, test_le}
 use Rattle.exact.specs.Limits.{least_end, greatest_end}
 use Rattle.stage.specs.Meaning.{Sound}
 use Rattle.band.specs.declared.row.Row.{Row}

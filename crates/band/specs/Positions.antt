@@ -1,9 +1,9 @@
 -- From what is known of the rows to what is said of the positions, and back.
-use Rattle.std.specs.Prelude.{◌≡◌, ℕ, zero, suc, ◌+◌, ◌-◌, ◌<◌, ◌≤◌, Bool, true, false, cond, not, ◌&&◌, ◌||◌, List, length, ℤ, Some, None, ◌==◌, nat_lt, refl}
-use Rattle.std.proofs.Common.{sym, ap, ◌∙◌, subst, arith}
+use Rattle.std.specs.Prelude.{◌≡◌, ℕ, ◌+◌, ◌-◌, ◌<◌, ◌≤◌, Bool, true, false, cond, not, ◌&&◌, ◌||◌, List, length, ℤ, Some, ◌==◌, nat_lt}
+use Rattle.std.proofs.Common.{sym, ap, ◌∙◌, arith}
 use Rattle.std.proofs.lemmas.Bool.Decides.{nat_tests}
 use Rattle.band.specs.declared.row.Row.{Row}
-use Rattle.band.specs.Faults.{row, in_order, follows, count_fault, row_fault, last_fault, at_fault, Faultless, FirstFault}
+use Rattle.band.specs.Faults.{count_fault, row_fault, last_fault, Faultless, FirstFault}
 
 -- the test of a position, over the tests of its three kinds
 abbrev pick : ℕ → ℕ → Bool → Bool → Bool → Bool

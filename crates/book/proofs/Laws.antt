@@ -4,7 +4,6 @@ use Rattle.std.proofs.lemmas.List.{take_more, take_more_set}
 use Rattle.refusal.specs.declared.refusal.Refusal.TheVariants as refusal
 use Rattle.stage.specs.Meaning.{Meaning}
 use Rattle.stage.specs.Meaning as stage
-use Rattle.book.specs.declared.tallies.Tallies.{Tallies}
 use Rattle.book.specs.declared.call.Call.{Call}
 use Rattle.book.specs.declared.call.Call.TheVariants as call
 use Rattle.book.specs.declared.answer.Answer.{Answer}

@@ -1,6 +1,6 @@
 -- When a bench book is that of a history.
 use Rattle.std.specs.Prelude.{◌≡◌, ℕ, ◌+◌, ◌<◌, ◌≤◌, Bool, true, false, cond, ◌||◌, List, length, ℤ, count_by, ◌==◌}
-use Rattle.std.specs.List.{AllByRecursion as All}
+use Rattle.std.specs.List.{AllByRecursion}
 use Rattle.stage.specs.Meaning.{Meaning}
 use Rattle.book.specs.Limits.{place_count, last_serial, within}
 use Rattle.book.specs.Book.{Book, Spot, Free, Open, Held}
@@ -35,7 +35,7 @@ pub record Agrees (es : List Event) (b : Book) : Type 0 where
   pub first : fate 0 es ≡ never
   pub fresh : (s : ℕ) → given es < s → fate s es ≡ never
   -- each spot is as its serial fares, and a serial that is open or held has just one spot
-  pub each : All (Fares es) b.spots
+  pub each : AllByRecursion (Fares es) b.spots
   pub once : (s : ℕ) → count_by (bears s) b.spots ≡ cond (stands (fate s es)) 1 0
 
 -- what a spot holds came from a reading that is taken, at an argument
@@ -50,7 +50,7 @@ pub record Kept (m : Meaning) (b : Book) : Type 0 where
   pub few : b.last ≤ last_serial
   pub given : b.opened ≤ b.last
   pub ended : b.filed + b.spoiled + b.aborted + count_by book.is_open b.spots ≡ b.opened
-  pub taken : All (Taken m) b.spots
+  pub taken : AllByRecursion (Taken m) b.spots
 
 -- what is so of a row in such a book
 pub record Measured (m : Meaning) (x : Row) : Type 0 where

@@ -1,6 +1,6 @@
 -- The bench book: what each call leaves in it, and what the call is told. It is fed the meaning of the stages, the channel's number
 -- and what each call is passed, and nothing from the program.
-use Rattle.std.specs.Prelude.{ℕ, ◌+◌, Bool, true, false, cond, not, List, [], ◌∷◌, set, replicate, ℤ, Some, None, Ok, Err, count_by, Option, Result, ◌==◌, nat_lt, slice_index_or, slice_set}
+use Rattle.std.specs.Prelude.{ℕ, ◌+◌, Bool, true, false, cond, not, List, [], ◌∷◌, replicate, ℤ, Some, None, Ok, Err, count_by, Option, Result, ◌==◌, nat_lt, slice_index_or, slice_set}
 use Rattle.std.specs.List.{prefix_len}
 use Rattle.refusal.specs.declared.refusal.Refusal.{Refusal}
 use Rattle.refusal.specs.declared.refusal.Refusal.TheVariants as refusal

@@ -7,7 +7,7 @@ use Rattle.std.specs.Int.Signed.{≤ℤ_refl}
 use Rattle.std.proofs.lemmas.Int.{by_lt_z, ints}
 use Rattle.algebra.proofs.Ring.{linear, ring, times_grows, times_grows_strictly, cancel, neg_left, one_right, product_not_negative, product_positive}
 use Rattle.algebra.proofs.Normal.{var, con, ◌⊕◌, ◌⊖◌, ◌⊗◌, adds_up, identity}
-use Rattle.rational.specs.Rational.{Rational, ◌≼◌, ◌≺◌, ◌≈◌, whole, opposite, plus, times}
+use Rattle.rational.specs.Rational.{Rational, ◌≼◌, ◌≺◌, whole, opposite}
 use Rattle.bounded.specs.Limits.{million, greatest_relative}
 use Rattle.bounded.specs.Ends.{lower_end, upper_end}
 use Rattle.bounded.specs.Model.{Possible, Within, Encloses, millionths}

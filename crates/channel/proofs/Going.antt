@@ -6,7 +6,7 @@ use Rattle.book.specs.declared.call.Call.{Call}
 use Rattle.book.specs.declared.answer.Answer.{Answer}
 use Rattle.book.specs.Rows.{Answers}
 use Rattle.book.specs.Book.{Book, next, told, rows}
-use Rattle.book.specs.Law.{History, events}
+use Rattle.book.specs.Law.{events}
 use Rattle.book.proofs.Laws.{law_step}
 use Rattle.book.proofs.Sheets.{distinct_rows}
 use Rattle.register.specs.declared.register.Register.{Register}

@@ -1,19 +1,16 @@
 -- The places of a register hold a sheet of the rows of its page.
-use Rattle.std.proofs.Common.{◌≡◌, List, [], ◌∷◌, map, ℤ, ◌≤ℤ◌, sym, refl, ap, ◌∙◌, subst}
+use Rattle.std.proofs.Common.{◌≡◌, List, [], ◌∷◌, map, ◌≤ℤ◌, sym, refl, ap, subst}
 use mathlib.Core.HLevel.{is_prop→PathP}
 use lib.Dec.{T_prop}
 use lib.Signed.{le_z}
 use Rattle.std.specs.List.{ContainsAt as Has}
 use Rattle.lines.specs.Sheet.{Measurement}
-use Rattle.lines.specs.Serials as sheet
 use Rattle.lines.proofs.Members.{has_map, each_of_map}
 use Rattle.places.specs.declared.place.Place.{Place}
 use Rattle.places.specs.declared.place.Place.TheVariants.{Free, Open, Held}
 use Rattle.places.specs.Held.{held}
-use Rattle.book.specs.Rows.{Row, SameRows, Unordered, DistinctSerials}
+use Rattle.book.specs.Rows.{Unordered, DistinctSerials}
 use Rattle.book.specs.Book.{held_rows}
-use Rattle.book.specs.declared.call.Call.{Call}
-use Rattle.book.specs.declared.answer.Answer.{Answer}
 use Rattle.register.specs.Page.{spot}
 use Rattle.channel.specs.Lines.{row, SheetOf, OfLines}
 

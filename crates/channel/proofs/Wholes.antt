@@ -1,11 +1,10 @@
 -- A whole run, one call after the other.
-use Rattle.std.proofs.Common.{◌≡◌, ℕ, ◌+◌, ◌<◌, List, [], ◌∷◌, length, get_or, take, drop, set, Some, None, Option, sym, refl, ap, ◌∙◌, subst, arith, drop-drop, drop-set-lt}
+use Rattle.std.proofs.Common.{◌≡◌, ℕ, ◌+◌, ◌<◌, List, [], length, get_or, take, drop, set, Some, None, Option, sym, ap, ◌∙◌, subst, arith, drop-drop, drop-set-lt}
 use Rattle.stage.specs.Meaning.{Meaning}
 use Rattle.places.specs.Held.{held}
 use Rattle.book.specs.declared.call.Call.{Call}
 use Rattle.book.specs.declared.call.Call.TheVariants as call
 use Rattle.book.specs.declared.answer.Answer.{Answer}
-use Rattle.book.specs.declared.answer.Answer.TheVariants as answer
 use Rattle.book.specs.Rows.{Answers, DistinctSerials}
 use Rattle.book.specs.Book.{Book, blank, next, told, rows, tallies}
 use Rattle.book.specs.Law.{events, upon, tallies as counted_tallies}

@@ -1,5 +1,5 @@
 -- The answers of the calls, as a history notes them.
-use Rattle.std.specs.Prelude.{◌≡◌, ℕ, Ok, Err, Result}
+use Rattle.std.specs.Prelude.{ℕ, Ok, Err, Result}
 use Rattle.exact.specs.declared.fraction.Fraction.{Fraction}
 use Rattle.refusal.specs.declared.refusal.Refusal.{Refusal}
 use Rattle.questions.specs.declared.verdict.Verdict.{Verdict}

@@ -1,5 +1,5 @@
 -- Rounded division does what it says, and only one number does.
-use Rattle.std.proofs.Common.{◌≡◌, ℕ, suc, ◌/◌, ◌<◌, ◌⊎◌, ℤ, pos, negsuc, ◌+ℤ◌, ◌-ℤ◌, ◌*ℤ◌, neg_ℤ, nat_abs, ◌≤ℤ◌, ◌<ℤ◌, inl, inr, mod-lt, div-add-mod', div-le_self, arith, w64, SFits}
+use Rattle.std.proofs.Common.{◌≡◌, suc, ◌/◌, ◌⊎◌, ℤ, pos, negsuc, ◌+ℤ◌, ◌-ℤ◌, ◌*ℤ◌, neg_ℤ, nat_abs, ◌≤ℤ◌, ◌<ℤ◌, inl, inr, mod-lt, div-add-mod', div-le_self, arith, w64, SFits}
 use lib.IntN.{*ℤ_comm}
 use lib.Signed.{≤ℤ_refl, quot_z, rem_z, mag_rem}
 use Rattle.std.proofs.lemmas.Int.{by_lt_z, ints}

@@ -1,5 +1,5 @@
 -- The ranges of the numbers that are kept.
-use Rattle.std.specs.Prelude.{ℕ, ◌<◌, ◌⊎◌, ℤ, pos, negsuc, neg_ℤ, ◌<ℤ◌}
+use Rattle.std.specs.Prelude.{ℕ, ◌<◌, ◌⊎◌, ℤ, pos, neg_ℤ, ◌<ℤ◌}
 
 -- the ends of an uncertainty set, in ticks
 abbrev pub greatest_end : ℤ

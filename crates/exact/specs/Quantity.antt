@@ -1,5 +1,5 @@
 -- What a fraction stands for.
-use Rattle.std.specs.Prelude.{Bool, ℤ, pos, ◌*ℤ◌, int_le}
+use Rattle.std.specs.Prelude.{Bool, pos, ◌*ℤ◌, int_le}
 use Rattle.std.proofs.Common.{arith}
 use Rattle.std.proofs.lemmas.Int.{ints}
 use Rattle.rational.specs.Rational.{Rational}

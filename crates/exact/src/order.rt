@@ -15,18 +15,18 @@ pub trait Order: Sized {
 
 // The greater of two values; of two that are equal in the order, the second.
 pub fn greater<T: Order + Copy>(a: T, b: T) -> T
-    ensures value { result ≡ (if under a b then b else a) }
-    ensures first { under a result ≡ true }
-    ensures second { under b result ≡ true }
+    ensures value { result ≡ (if T.under a b then b else a) }
+    ensures first { T.under a result ≡ true }
+    ensures second { T.under b result ≡ true }
 {
     if a.at_most(&b) { b } else { a }
 }
 
 // The lesser of two values; of two that are equal in the order, the first.
 pub fn lesser<T: Order + Copy>(a: T, b: T) -> T
-    ensures value { result ≡ (if under a b then a else b) }
-    ensures first { under result a ≡ true }
-    ensures second { under result b ≡ true }
+    ensures value { result ≡ (if T.under a b then a else b) }
+    ensures first { T.under result a ≡ true }
+    ensures second { T.under result b ≡ true }
 {
     if a.at_most(&b) { a } else { b }
 }

@@ -3,14 +3,13 @@ use Rattle.std.specs.Prelude.{◌≡◌, ℕ, List, [], ◌∷◌, ℤ, pos, ◌
 use Rattle.std.proofs.Common.{arith}
 use Rattle.std.proofs.lemmas.Int.{ints}
 use Rattle.rational.specs.Rational.{Rational, whole}
-use Rattle.rational.specs.Line.{Line, slope, value_at}
-use Rattle.stage.specs.Meaning.{Meaning, single}
+use Rattle.rational.specs.Line.{slope, value_at}
+use Rattle.stage.specs.Meaning.{single}
 use Rattle.bounded.specs.Ends.{lower_end, upper_end}
-use Rattle.lines.specs.Sheet.{Measurement, Consistent, Conflict, Least, Greatest}
+use Rattle.lines.specs.Sheet.{Measurement, Conflict, Least, Greatest}
 use Rattle.questions.specs.Told.{Unbounded}
 use Rattle.book.specs.declared.call.Call.{Call}
 use Rattle.book.specs.declared.call.Call.TheVariants.{Open, File, Abort}
-use Rattle.book.specs.declared.tallies.Tallies.{Tallies}
 use Rattle.book.specs.Book.{blank, tallies}
 use Rattle.book.specs.Run.{after}
 

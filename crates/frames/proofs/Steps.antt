@@ -1,5 +1,5 @@
 -- One step of the reader, by what stands at its position.
-use Rattle.std.proofs.Common.{◌≡◌, ℕ, ◌+◌, ◌-◌, ◌<◌, ◌≤◌, List, [], ◌∷◌, length, take, drop, Ok, Err, sym, refl, ap, ◌∙◌, subst, arith, length-drop, Bor}
+use Rattle.std.proofs.Common.{◌≡◌, ℕ, ◌+◌, ◌-◌, ◌≤◌, List, [], ◌∷◌, length, take, drop, Ok, Err, refl, subst, arith, length-drop, Bor}
 use Rattle.refusal.specs.declared.refusal.Refusal.{Refusal}
 use Rattle.std.proofs.lemmas.List.{take_rest}
 use Rattle.frames.specs.declared.frame.Frame.{Frame}

@@ -1,9 +1,9 @@
 -- A tape says what was written, and nothing else is read so.
-use Rattle.std.proofs.Common.{◌≡◌, ℕ, suc, ◌+◌, ◌-◌, ◌*◌, ◌/◌, ◌%◌, ◌^◌, ◌<◌, ◌≤◌, Bool, true, false, cond, eqb, ltb, List, [], ◌∷◌, ◌++◌, length, take, sym, refl, ap, ◌∙◌, subst, one-add, arith, length-append, length-take-le, ltb-false, eqb-true}
+use Rattle.std.proofs.Common.{◌≡◌, ℕ, ◌+◌, ◌*◌, ◌/◌, ◌%◌, ◌^◌, ◌<◌, ◌≤◌, Bool, true, false, cond, eqb, ltb, List, [], ◌∷◌, ◌++◌, length, take, sym, refl, ap, ◌∙◌, subst, one-add, arith, length-append, length-take-le, ltb-false, eqb-true}
 use lib.Seq.{take-append_seam}
-use Rattle.std.specs.List.{AllByRecursion as All}
+use Rattle.std.specs.List.{AllByRecursion}
 use Rattle.std.proofs.lemmas.Bool.Decides.{nat_tests}
-use Rattle.frames.specs.Tape.{Meaning, load, reading, abort, withdraw, verdict, slope, value, tallies, clear, Said, ended, frame, cut_short, unknown, said, signed, number, whole, of_kind, argument}
+use Rattle.frames.specs.Tape.{load, reading, abort, withdraw, verdict, slope, value, tallies, clear, Said, ended, frame, cut_short, unknown, said, signed, number, whole, of_kind, argument}
 use Rattle.frames.proofs.Complement.{signed_bits, bits_below, bits_signed}
 use Rattle.frames.specs.Writing.{bits, Within, with_argument, with_number, bytes_of, Writable, ReadAsWritten, WrittenAsRead}
 
@@ -67,7 +67,7 @@ by_test P true f g = f refl
 by_test P false f g = g refl
 
 abbrev Bytes : List ℕ → Type 0
-Bytes = All (λ b. b < 256)
+Bytes = AllByRecursion (λ b. b < 256)
 
 -- 16 bits from two bytes, and back
 argument_held : (head : ℕ) (rest : List ℕ) → Bytes rest → 2 ≤ length rest → Within 16 (argument rest) × (take 3 (head ∷ rest) ≡ with_argument head (bits 16 (argument rest)))

@@ -1,6 +1,6 @@
 -- How a frame is written, and that the tape says just what was written.
-use Rattle.std.specs.Prelude.{◌≡◌, ℕ, suc, ◌+◌, ◌-◌, ◌*◌, ◌/◌, ◌%◌, ◌^◌, ◌<◌, ◌≤◌, List, [], ◌∷◌, ◌++◌, length, take, ℤ, pos, negsuc}
-use Rattle.std.specs.List.{AllByRecursion as All}
+use Rattle.std.specs.Prelude.{◌≡◌, ℕ, suc, ◌+◌, ◌-◌, ◌*◌, ◌/◌, ◌%◌, ◌^◌, ◌<◌, List, [], ◌∷◌, ◌++◌, length, take, ℤ, pos, negsuc}
+use Rattle.std.specs.List.{AllByRecursion}
 use Rattle.frames.specs.Tape.{Meaning, load, reading, abort, withdraw, verdict, slope, value, tallies, clear, frame, said}
 
 -- the k bits of a number in two's complement
@@ -50,4 +50,4 @@ ReadAsWritten = (m : Meaning) (rest : List ℕ) → Writable m → said (bytes_o
 
 -- only the bytes that are written for it are read as a frame
 abbrev pub WrittenAsRead : Type 0
-WrittenAsRead = (tape : List ℕ) (m : Meaning) (n : ℕ) → All (λ b. b < 256) tape → said tape ≡ frame m n → Writable m × (take n tape ≡ bytes_of m) × (n ≡ length (bytes_of m))
+WrittenAsRead = (tape : List ℕ) (m : Meaning) (n : ℕ) → AllByRecursion (λ b. b < 256) tape → said tape ≡ frame m n → Writable m × (take n tape ≡ bytes_of m) × (n ≡ length (bytes_of m))

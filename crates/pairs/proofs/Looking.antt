@@ -1,9 +1,8 @@
 -- One more pair looked at.
-use Rattle.std.proofs.Common.{◌≡◌, Bool, true, cond, ◌⊎◌, List, ◌≤ℤ◌, Some, None, Option, sym, refl, ap, subst, inl, inr, ⊎_elim, arith}
+use Rattle.std.proofs.Common.{◌≡◌, Bool, true, cond, List, ◌≤ℤ◌, Some, None, Option, sym, refl, ap, subst, inl, inr, ⊎_elim, arith}
 use Rattle.std.specs.List.{ContainsAt as Has}
 use Rattle.std.proofs.lemmas.Bool.{cases_cond}
 use Rattle.algebra.proofs.Ring.{linear, test_le}
-use Rattle.rational.specs.Rational.{◌≼◌}
 use Rattle.rational.proofs.Order.{≼_trans}
 use Rattle.exact.specs.Quantity.{quantity, at_most}
 use Rattle.lines.specs.Sheet.{Measurement}

@@ -1,19 +1,19 @@
 -- A call that is made goes on from whatever calls led to it, and is told by its line.
-use Rattle.std.proofs.Common.{◌≡◌, ℕ, List, [], ◌∷◌, ◌++◌, Some, None, Option, sym, refl, ap, ◌∙◌, subst}
+use Rattle.std.proofs.Common.{◌≡◌, ℕ, List, Some, None, sym, ap, ◌∙◌, subst}
 use Rattle.stage.specs.Meaning.{Meaning}
 use Rattle.places.specs.Held.{held}
 use Rattle.book.specs.declared.call.Call.{Call}
 use Rattle.book.specs.declared.answer.Answer.{Answer}
 use Rattle.book.specs.Rows.{Answers, DistinctSerials}
 use Rattle.book.specs.Book.{Book, blank, next, told, rows}
-use Rattle.book.specs.Run.{after, Replies}
+use Rattle.book.specs.Run.{after}
 use Rattle.book.proofs.Laws.{after_push, replies_push, distinct_run}
 use Rattle.register.specs.declared.register.Register.{Register}
 use Rattle.register.specs.Page.{page}
 use Rattle.channel.specs.Lines.{Says, OfLines}
 use Rattle.channel.proofs.Going.{answered}
 use Rattle.channel.proofs.Wholes.{lines_of}
-use Rattle.player.specs.Steps.{LedBy, Goes}
+use Rattle.player.specs.Steps.{Goes}
 
 module _ (m : Meaning) (n : ℕ) where
   goes : (b : Book) (c : Call) (r : Answer) (b' : Book) → b' ≡ next m n b c

@@ -1,5 +1,5 @@
 -- How a run goes on, step by step.
-use Rattle.std.proofs.Common.{◌≡◌, ℕ, ◌+◌, ◌-◌, ◌≤◌, Bool, true, false, List, [], ◌∷◌, ◌++◌, drop, ℤ, Some, None, Option, sym, refl, ap, ◌∙◌, subst, append_assoc, arith, drop-drop}
+use Rattle.std.proofs.Common.{◌≡◌, ℕ, ◌+◌, ◌-◌, ◌≤◌, Bool, true, false, List, [], ◌∷◌, ◌++◌, drop, ℤ, Some, None, Option, sym, refl, ap, ◌∙◌, append_assoc, arith, drop-drop}
 use Rattle.stage.specs.Meaning.{Meaning}
 use Rattle.book.specs.declared.call.Call.{Call}
 use Rattle.book.specs.declared.answer.Answer.{Answer}

@@ -14,6 +14,6 @@ pub(crate) fn put_line(line: &Line, out: &mut [u8], at: usize) -> usize
 {
     match print(line, &mut out[at..]) {
         Ok(length) => at + length,
-        Err(_) => unreachable(),
+        Err(_) => unreachable!(),
     }
 }

@@ -1,5 +1,5 @@
 -- How many bytes a line takes at most.
-use Rattle.std.proofs.Common.{◌≡◌, ℕ, suc, ◌+◌, ◌^◌, ◌<◌, ◌≤◌, List, [], ◌∷◌, ◌++◌, length, ℤ, pos, negsuc, neg_ℤ, ◌≤ℤ◌, ◌<ℤ◌, refl, arith, lit<, lit≤, length-append}
+use Rattle.std.proofs.Common.{ℕ, suc, ◌+◌, ◌^◌, ◌<◌, ◌≤◌, List, [], ◌∷◌, ◌++◌, length, ℤ, pos, negsuc, neg_ℤ, ◌≤ℤ◌, ◌<ℤ◌, arith, lit<, length-append}
 use Rattle.std.proofs.lemmas.Int.{ints}
 use Rattle.printout.specs.Decimal.{signed}
 use Rattle.printout.specs.Words.{fields}

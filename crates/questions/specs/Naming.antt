@@ -1,6 +1,6 @@
 -- Which measurements a conflict names.
 use Rattle.std.specs.Prelude.{◌≡◌, ◌≤◌, ◌⊎◌, List, [], ◌∷◌, ◌+ℤ◌, ◌-ℤ◌, ◌*ℤ◌, ◌<ℤ◌, Some, None, Option}
-use Rattle.std.specs.List.{ContainsAt as Has, AllByRecursion as All}
+use Rattle.std.specs.List.{ContainsAt as Has, AllByRecursion}
 use Rattle.refusal.specs.declared.conflict.Conflict.{Conflict as Naming}
 use Rattle.lines.specs.Sheet.{Measurement, Consistent, Conflict}
 use Rattle.places.specs.declared.sample.Sample.{Sample}
@@ -15,7 +15,7 @@ pub record InOrder (a b x y : Sample) : Type 0 where
 
 -- the same measurements, in whatever order
 abbrev pub Same : List Measurement → List Measurement → Type 0
-Same s t = All (Has s) t × All (Has t) s
+Same s t = AllByRecursion (Has s) t × AllByRecursion (Has t) s
 
 -- these two are named
 pub record NamesTwo (a b : Measurement) (r : Naming) : Type 0 where
@@ -55,7 +55,7 @@ pub record Broken (t : List Measurement) (r : Naming) : Type 0 where
   pub a : Measurement
   pub b : Measurement
   pub c : Measurement
-  pub among : All (Has t) (a ∷ b ∷ c ∷ [])
+  pub among : AllByRecursion (Has t) (a ∷ b ∷ c ∷ [])
   pub conflict : Conflict (a ∷ b ∷ c ∷ [])
   pub names : NamesThree a b c r
 

@@ -15,7 +15,7 @@ use Rattle.places.specs.declared.status.Status.TheVariants as status
 use Rattle.places.specs.Search.{has, before, index, held_with}
 use Rattle.places.specs.Search as places
 use Rattle.book.specs.Limits.{place_count, last_serial}
-use Rattle.book.specs.Book.{Spot, Free, Open, Held, is_free, is_open, is_held, open_as, held_as, first, found, hold, opens_next, aborts_next, withdraws_next, files_next}
+use Rattle.book.specs.Book.{Spot, Free, Open, is_free, is_open, is_held, open_as, held_as, first, found, hold, opens_next, aborts_next, withdraws_next, files_next}
 use Rattle.register.specs.declared.register.Register.{Register}
 use Rattle.register.specs.Page.{spot, page}
 

@@ -7,7 +7,7 @@ use refusal::refusal::Refusal;
 
 // The uncertainty set of a reading, to be kept.
 pub fn measure<S: Stage>(stage: &S, reading: i32) -> Result<UncertaintySet, Refusal>
-    ensures { ends result ≡ answer (meaning stage.now) reading }
+    ensures { ends result ≡ answer (S.meaning stage.now) reading }
 {
     let (lower, upper) = stage.ask(reading)?;
     Ok(UncertaintySet { lower, upper })

@@ -3,9 +3,10 @@
 
 ghost use Rattle.std.specs.Prelude.{◌≤◌, length, IfOk};
 
-use anyhow::anyhow;
+use anyhow::{Context, anyhow};
 use player::play::play;
 use std::io::{Read, Write};
+use std::process::ExitCode;
 use std::{env, fs};
 
 // How many bytes of a tape are read, and room for the printout of so many.
@@ -47,10 +48,7 @@ fn play_from(rt: &HostRuntime, source: &mut impl Read) -> anyhow::Result<()> {
 fn play_file(rt: &HostRuntime, path: &str) -> anyhow::Result<()> {
     match fs::open(rt, path) {
         Ok(mut file) => play_from(rt, &mut file),
-        Err(error) => {
-            let message = format!(in rt.alloc(); "{path} cannot be read: {error}")?;
-            Err(message.into())
-        }
+        Err(error) => Err(error).context(format_args!("{path} cannot be read")),
     }
 }
 
@@ -61,10 +59,12 @@ fn run(rt: &HostRuntime) -> anyhow::Result<()> {
     }
 }
 
-fn main(rt: HostRuntime) -> anyhow::Result<()> {
-    let played = run(&rt);
-    if let Err(error) = &played {
-        eprintln!(rt; "tape: {error}")?;
+fn main(rt: HostRuntime) -> anyhow::Result<ExitCode> {
+    match run(&rt) {
+        Ok(()) => Ok(ExitCode::SUCCESS),
+        Err(error) => {
+            eprintln!(rt; "tape: {error:#}")?;
+            Ok(ExitCode::FAILURE)
+        }
     }
-    played
 }

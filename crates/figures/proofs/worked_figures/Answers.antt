@@ -1,4 +1,4 @@
-use Rattle.std.proofs.Common.{◌≡◌, ℕ, ℤ, pos, Result, ◌∙◌}
+use Rattle.std.proofs.Common.{ℕ, ℤ, pos, Result, ◌∙◌}
 use Rattle.refusal.specs.declared.refusal.Refusal.{Refusal}
 use Rattle.stage.specs.Meaning.{answer, single}
 use Rattle.stage.specs.Chains.{chained}

@@ -1,4 +1,4 @@
-use Rattle.std.proofs.Common.{◌≡◌, Bool, cond, take, sym, ap, ◌∙◌, take_all, w32, SFits, rules}
+use Rattle.std.proofs.Common.{Bool, cond, take, sym, ap, ◌∙◌, take_all, w32, SFits, rules}
 use lib.Signed.{le_z}
 use Rattle.std.proofs.lemmas.List.Sums.{fold_more}
 use Rattle.std.proofs.lemmas.Int.{to_z-of_z}

@@ -1,7 +1,6 @@
-use Rattle.std.proofs.Common.{◌≡◌, ℕ, ◌-◌, ◌<◌, true, false, length, sym, arith, w32, SFits, rules, below_more}
-use lib.Signed.{lt_z}
+use Rattle.std.proofs.Common.{◌≡◌, ◌-◌, ◌<◌, true, false, length, sym, arith, w32, SFits, rules, below_more}
 use Rattle.std.proofs.lemmas.Int.{to_z-of_z}
-use Rattle.band.specs.Faults.{row, in_order, follows, count_fault, row_fault, last_fault}
+use Rattle.band.specs.Faults.{row, in_order, follows, row_fault}
 use Rattle.band.specs.Positions.{count_fine, bad_itself, bad_pair, fine_pair, first_row, first_last, no_fault}
 use Rattle.band.proofs.fault.first_fault.Goals as goal
 use Rattle.band.proofs.fault.first_fault.Goals.{else-i-gt0-via-then-i-gt0+else-not-follows, else-i-gt0-via-else-i-gt0}

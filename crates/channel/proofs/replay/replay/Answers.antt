@@ -1,4 +1,4 @@
-use Rattle.std.proofs.Common.{◌≡◌, ◌<◌, ◌≤◌, min, length, get_or, take, drop, pos, sym, refl, ap, ◌∙◌, subst, arith}
+use Rattle.std.proofs.Common.{◌≡◌, ◌<◌, min, length, get_or, take, drop, pos, refl, ap, ◌∙◌, subst, arith}
 use Rattle.places.specs.Held.{held}
 use Rattle.book.specs.declared.call.Call.TheVariants as call
 use Rattle.book.specs.Book.{blank}

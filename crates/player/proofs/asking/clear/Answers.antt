@@ -1,6 +1,5 @@
-use Rattle.std.proofs.Common.{Ok, Err, refl, ap, rules}
-use Rattle.printout.specs.Text.{text, reason_of}
-use Rattle.player.proofs.Making.{goes_told, goes_said}
+use Rattle.std.proofs.Common.{refl, rules}
+use Rattle.player.proofs.Making.{goes_told}
 use Rattle.book.specs.declared.answer.Answer.TheVariants as answer
 use Rattle.player.proofs.asking.clear.Goals as goal
 

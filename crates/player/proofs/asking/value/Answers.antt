@@ -1,11 +1,11 @@
-use Rattle.std.proofs.Common.{Ok, Err, refl, ap, rules}
+use Rattle.std.proofs.Common.{Ok, Err, refl, ap}
 use Rattle.std.proofs.lemmas.Int.{to_z-of_z}
 use Rattle.places.specs.Held.{held}
 use Rattle.printout.specs.Text.{text, reason_of}
-use Rattle.player.proofs.Making.{goes_told, goes_said}
+use Rattle.player.proofs.Making.{goes_said}
 use Rattle.book.specs.declared.call.Call.TheVariants as call
-use Rattle.channel.proofs.Saying.{verdict_said, slope_said, value_said}
-use Rattle.channel.specs.Told.{of_verdict, of_slope, of_value}
+use Rattle.channel.proofs.Saying.{value_said}
+use Rattle.channel.specs.Told.{of_value}
 use Rattle.player.proofs.asking.value.Goals as goal
 
 pub returns-in-Ok : goal.returns-in-Ok

@@ -1,9 +1,9 @@
-use Rattle.std.proofs.Common.{Ok, Err, refl, ap, ◌∙◌, rules}
+use Rattle.std.proofs.Common.{Ok, Err, refl, ap, ◌∙◌}
 use Rattle.printout.specs.Text.{text, reason_of}
-use Rattle.player.proofs.Making.{goes_told, goes_said}
+use Rattle.player.proofs.Making.{goes_said}
 use Rattle.book.specs.declared.call.Call.TheVariants as call
-use Rattle.channel.proofs.Saying.{verdict_said, slope_said, value_said}
-use Rattle.channel.specs.Told.{of_verdict, of_slope, of_value}
+use Rattle.channel.proofs.Saying.{verdict_said}
+use Rattle.channel.specs.Told.{of_verdict}
 use Rattle.player.proofs.Lines.{hands_none, judged_plain}
 use Rattle.player.proofs.asking.verdict.Goals as goal
 

@@ -2,7 +2,7 @@ use Rattle.std.proofs.Common.{length, Ok, Err, refl, ap, arith, rules}
 use Rattle.register.specs.Page.{page}
 use Rattle.book.specs.declared.call.Call.TheVariants as call
 use Rattle.printout.specs.Text.{text, reason_of}
-use Rattle.player.proofs.Making.{goes_told, goes_said}
+use Rattle.player.proofs.Making.{goes_told}
 use Rattle.channel.specs.Told.{of_abort}
 use Rattle.player.proofs.ending.abort.Goals as goal
 

@@ -6,7 +6,7 @@ use Rattle.printout.specs.declared.line.Line.TheVariants.{Set}
 use Rattle.printout.specs.Text.{text, reason_of}
 use Rattle.player.specs.Lines.{unfiled}
 use Rattle.player.proofs.Lines.{no_reason}
-use Rattle.player.proofs.Making.{goes_told, goes_said}
+use Rattle.player.proofs.Making.{goes_told}
 use Rattle.channel.specs.Told.{of_file}
 use Rattle.player.proofs.ending.file.Goals as goal
 

@@ -1,13 +1,8 @@
-use Rattle.std.proofs.Common.{◌≡◌, List, [], ◌∷◌, length, take, drop, Some, None, Option, sym, refl, ap, ◌∙◌, subst, arith, rules}
-use Rattle.printout.specs.declared.line.Line.TheVariants.{Refused}
-use Rattle.printout.specs.Text.{text, reason_of}
-use Rattle.channel.specs.declared.point.Point.{Point}
-use Rattle.frames.specs.Tape.{Said, frame, reading, abort}
-use Rattle.book.specs.declared.call.Call.TheVariants as call
+use Rattle.std.proofs.Common.{[], ◌∷◌, take, Some, None, ap, subst, arith, rules}
 use Rattle.register.specs.Page.{page}
 use Rattle.player.specs.Script.{giving_up}
 use Rattle.player.specs.Steps.{Reached, owed}
-use Rattle.player.proofs.Reaching.{made_on, refused_on, interrupted, filed, given_up, unread, unaborted, called}
+use Rattle.player.proofs.Reaching.{made_on, interrupted}
 use Rattle.player.proofs.turn.interrupt.Goals as goal
 
 pub returns-in_default : goal.returns-in_default

@@ -1,13 +1,11 @@
-use Rattle.std.proofs.Common.{◌≡◌, List, [], ◌∷◌, ◌++◌, length, take, drop, Some, None, Option, sym, refl, ap, ◌∙◌, subst, arith, rules}
+use Rattle.std.proofs.Common.{[], ◌∷◌, ◌++◌, take, Some, None, ap, ◌∙◌, subst, rules}
 use Rattle.printout.specs.declared.line.Line.TheVariants.{Refused}
-use Rattle.printout.specs.Text.{text, reason_of}
-use Rattle.channel.specs.declared.point.Point.{Point}
-use Rattle.frames.specs.Tape.{Said, frame, reading, abort}
+use Rattle.printout.specs.Text.{text}
+use Rattle.frames.specs.Tape.{frame, reading}
 use Rattle.book.specs.declared.call.Call.TheVariants as call
 use Rattle.register.specs.Page.{page}
-use Rattle.player.specs.Script.{giving_up}
-use Rattle.player.specs.Steps.{Reached, owed}
-use Rattle.player.proofs.Reaching.{made_on, refused_on, interrupted, filed, given_up, unread, unaborted, called}
+use Rattle.player.specs.Steps.{Reached}
+use Rattle.player.proofs.Reaching.{made_on, refused_on, filed, unread}
 use Rattle.std.proofs.lemmas.Int.{to_z-of_z}
 use Rattle.player.proofs.turn.read.Goals as goal
 

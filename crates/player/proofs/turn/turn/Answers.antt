@@ -1,14 +1,14 @@
-use Rattle.std.proofs.Common.{◌≡◌, List, [], ◌∷◌, length, take, drop, Some, None, sym, refl, ap, ◌∙◌, subst, arith, w32, SFits, rules}
+use Rattle.std.proofs.Common.{[], ◌∷◌, take, None, sym, refl, ap, ◌∙◌, subst, arith, w32, SFits, rules}
 use Rattle.std.proofs.lemmas.Int.{to_z-of_z}
-use Rattle.printout.specs.Text.{text, reason_of}
-use Rattle.frames.specs.Tape.{Said, frame, load, reading, abort}
+use Rattle.printout.specs.Text.{text}
+use Rattle.frames.specs.Tape.{frame, load, reading}
 use Rattle.frames.specs.Answers.{meaning}
 use Rattle.book.specs.declared.call.Call.TheVariants as call
 use Rattle.register.specs.Page.{page}
 use Rattle.player.specs.Lines.{telling}
 use Rattle.player.specs.Script.{before, script}
-use Rattle.player.specs.Steps.{Made, Reached, owed, brings}
-use Rattle.player.proofs.Reaching.{made_on, called, Simple, simple, owed_few, rest_later}
+use Rattle.player.specs.Steps.{Made, Reached, brings}
+use Rattle.player.proofs.Reaching.{made_on, called, simple, owed_few, rest_later}
 use Rattle.player.proofs.turn.turn.Goals as goal
 
 pub returns-in-Reading : goal.returns-in-Reading

@@ -1,4 +1,4 @@
-use Rattle.std.proofs.Common.{◌≡◌, ◌+◌, ◌/◌, ◌%◌, [], ◌∷◌, length, sym, refl, ap, ◌∙◌, arith, rules}
+use Rattle.std.proofs.Common.{◌+◌, ◌/◌, ◌%◌, [], ◌∷◌, length, sym, ap, ◌∙◌, arith, rules}
 use Rattle.printout.specs.Words.{over}
 use Rattle.printout.specs.Decimal.{decimal}
 use Rattle.printout.proofs.Over.{over_next}

@@ -1,4 +1,4 @@
-use Rattle.std.proofs.Common.{◌≡◌, ℕ, ◌+◌, ◌<◌, ◌≤◌, List, [], ◌∷◌, ◌++◌, length, pos, codes, sym, refl, ap, ◌∙◌, zero-add, arith, lit<, rules}
+use Rattle.std.proofs.Common.{◌≡◌, [], ◌∷◌, ◌++◌, length, pos, codes, ap, ◌∙◌, zero-add, arith, lit<}
 use Rattle.std.proofs.lemmas.Int.{ints}
 use Rattle.printout.specs.Words.{over, fields, remark}
 use Rattle.printout.proofs.Casts.{unsigned, u32}

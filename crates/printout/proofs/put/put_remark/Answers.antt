@@ -1,6 +1,6 @@
-use Rattle.std.proofs.Common.{◌≡◌, ℕ, ◌+◌, ◌≤◌, List, [], ◌∷◌, map, length, get_or, take, sym, refl, ap, ◌∙◌, add-zero, arith, length-take-le, take_all}
+use Rattle.std.proofs.Common.{◌≡◌, ℕ, ◌+◌, ◌≤◌, List, [], ◌∷◌, map, length, get_or, take, sym, ap, ◌∙◌, add-zero, arith, length-take-le, take_all}
 use Rattle.std.proofs.lemmas.List.{length-map, map_more}
-use Rattle.printout.specs.Words.{over, shown, remark}
+use Rattle.printout.specs.Words.{over, shown}
 use Rattle.printout.proofs.Over.{next, over_nothing}
 use Rattle.printout.proofs.Remarks.{no_remark, some_remark}
 use Rattle.printout.proofs.put.put_remark.Goals as goal

@@ -1,4 +1,4 @@
-use Rattle.std.proofs.Common.{◌≡◌, ◌+◌, map, length, take}
+use Rattle.std.proofs.Common.{◌≡◌, ◌+◌, map, take}
 use Rattle.printout.specs.Words.{over, shown}
 use Rattle.printout.proofs.put.put_remark.Given as goal
 

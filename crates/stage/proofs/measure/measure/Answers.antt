@@ -15,4 +15,4 @@ invariant_of-result g c =
     let s = g.met.S.Stage.sound c.args.stage.now in
     let o = s.ordered r t.0 in
     let w = s.within r t.0 in
-    (omega (arith, ints), (omega (arith, ints), (omega (arith, ints), tt)))
+    record { low = omega (arith, ints); ordered = omega (arith, ints); high = omega (arith, ints) }

@@ -1,4 +1,4 @@
-use Rattle.std.proofs.Common.{◌≡◌, ℕ, ◌<◌, ◌≤◌, List, length, take, set, sym, refl, ap, ◌∙◌, subst, arith, length-set, take_all, w32, to_z, of_z, rules}
+use Rattle.std.proofs.Common.{◌≡◌, ℕ, ◌<◌, ◌≤◌, List, length, take, sym, refl, ap, ◌∙◌, subst, arith, length-set, take_all, w32, to_z, of_z}
 use Rattle.std.proofs.lemmas.List.{take_more, take_more_set}
 use Rattle.std.proofs.lemmas.Int.{to_z-of_z}
 use Rattle.band.specs.declared.row.Row.{Row}
@@ -46,7 +46,7 @@ invariant_of-self c =
     let last = to_z w32 (of_z w32 c.args.last) in
     let few = some_rows rows last fine in
     let same = copied rows c.loop-i.table c.loop-i.i c.loop-i-test.false c.loop-i.auto.i-end c.loop-i.invariant.0 in
-    (few.1, (subst (λ rs. Faultless rs last) (sym same) fine, tt))
+    record { few = few.1; sound = subst (λ rs. Faultless rs last) (sym same) fine }
 
 pub returns : goal.returns
 returns c =

@@ -1,6 +1,5 @@
-use Rattle.std.proofs.Common.{◌≡◌, ℤ, sym, ◌∙◌, subst, w64, SFits, rules}
+use Rattle.std.proofs.Common.{ℤ, sym, ◌∙◌, subst, w64, SFits, rules}
 use Rattle.std.proofs.lemmas.Int.{to_z-of_z}
-use Rattle.bounded.specs.Ends.{lower_end, upper_end}
 use Rattle.bounded.specs.Model.{Encloses}
 use Rattle.bounded.specs.Truth.{encloses}
 use Rattle.bounded.proofs.bounded.Bounded.ends.Goals as goal

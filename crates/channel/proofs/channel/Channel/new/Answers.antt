@@ -1,4 +1,4 @@
-use Rattle.std.proofs.Common.{[], sym, refl, subst, rules}
+use Rattle.std.proofs.Common.{[], sym, subst, rules}
 use Rattle.book.specs.Law.{events, Lawful}
 use Rattle.book.proofs.Steps.{agrees_blank}
 use Rattle.channel.specs.Runs.{Led}

@@ -1,4 +1,4 @@
-use Rattle.std.proofs.Common.{Some, refl, ap, rules}
+use Rattle.std.proofs.Common.{Some, refl, ap}
 use Rattle.book.specs.declared.answer.Answer.TheVariants.{Counted}
 use Rattle.channel.proofs.Going.{goes_on}
 use Rattle.channel.proofs.channel.Channel.tallies.Goals as goal

@@ -1,8 +1,8 @@
-use Rattle.std.proofs.Common.{◌≡◌, pos, ◌+ℤ◌, ◌-ℤ◌, nat_abs, ◌≤ℤ◌, ◌<ℤ◌, sym, ◌∙◌, subst, ⊎_elim, arith, w64, SFits, to_z, of_z, rules}
+use Rattle.std.proofs.Common.{pos, ◌+ℤ◌, ◌-ℤ◌, nat_abs, ◌≤ℤ◌, ◌<ℤ◌, ⊎_elim, arith, w64, SFits, rules}
 use lib.Signed.{quot_z, rem_z}
 use Rattle.std.proofs.lemmas.Int.{ints, to_z-of_z}
 use Rattle.algebra.proofs.Ring.{linear, distrib_right, one_left}
-use Rattle.exact.specs.Division.{ceiling, RoundsUp}
+use Rattle.exact.specs.Division.{ceiling}
 use Rattle.exact.proofs.Rounding.{above, rounds_up, up_unique, truncated, quotient_fits, remainder_fits, towards_zero}
 use Rattle.exact.proofs.divisor.Divisor.ceiling.Goals as goal
 

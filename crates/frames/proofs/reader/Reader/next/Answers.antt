@@ -1,4 +1,4 @@
-use Rattle.std.proofs.Common.{◌≡◌, ◌-◌, ◌<◌, length, take, drop, Ok, Err, sym, refl, ap, ◌∙◌, subst, arith, length-drop, rules}
+use Rattle.std.proofs.Common.{◌-◌, ◌<◌, length, take, drop, Err, sym, refl, ap, ◌∙◌, arith, length-drop, rules}
 use Rattle.std.proofs.lemmas.List.{take_rest}
 use Rattle.std.proofs.lemmas.Result.{err_from_is_err_and}
 use Rattle.frames.specs.Tape.{said, moved}
@@ -19,7 +19,7 @@ pub returns-in_err-frame : goal.returns-in_err-frame
 returns-in_err-frame c =
     let t = c.args.self.now.tape.now in
     let p = c.args.self.now.position in
-    let why = err_from_is_err_and c.from-residual.result c.from-residual.ensures.1 in
+    let why = err_from_is_err_and c.from_residual.result c.from_residual.ensures.1 in
     let e = ap (λ bytes. answer p (said bytes)) (sym (take_rest t p)) ∙ c.in_err-frame.ensures in
     record { answer = ap meant (why.1 ∙ ap Err why.2) ∙ sym e; place = omega (arith, stays p (said (drop p t)) _ e); tape = refl; written = read_as_written; only = written_as_read }
 

@@ -15,13 +15,13 @@ pub invariant_of-self : goal.invariant_of-self
 invariant_of-self g c =
     let f = somewhere c.args.self.now (Open c.args.serial) c.in-Some.i c.in-Some.ensures in
     let n = open_after _ _ _ _ f false (ap is_open c.hold.ensures ∙ held_shut _ _ _) in
-    (search rules, (search rules, (search rules, (omega arith, tt))))
+    record { long = search rules; few = search rules; given = search rules; ended = omega arith }
 
 pub invariant_of-self-in-Err : goal.invariant_of-self-in-Err
 invariant_of-self-in-Err g c =
     let f = somewhere c.args.self.now (Open c.args.serial) c.in-Some.i c.in-Some.ensures in
     let n = open_after _ _ _ _ f false (ap is_open c.release.ensures) in
-    (search rules, (search rules, (search rules, (omega arith, tt))))
+    record { long = search rules; few = search rules; given = search rules; ended = omega arith }
 
 pub returns-in-Ok : goal.returns-in-Ok
 returns-in-Ok g c =

@@ -22,7 +22,7 @@ pub invariant_of-self : goal.invariant_of-self
 invariant_of-self c =
     let f = somewhere c.args.self.now Free c.in-Some.i c.in-Some.ensures in
     let n = open_after _ _ _ (Open (c.args.self.now.last + 1) c.args.argument) f true refl in
-    (search rules, (omega arith, (search rules, (omega arith, tt))))
+    record { long = search rules; few = omega arith; given = search rules; ended = omega arith }
 
 pub returns : goal.returns
 returns c =

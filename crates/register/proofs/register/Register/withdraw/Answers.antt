@@ -14,7 +14,7 @@ pub invariant_of-self : goal.invariant_of-self
 invariant_of-self c =
     let f = somewhere c.args.self.now (Held c.args.serial) c.in-Some.i c.in-Some.ensures in
     let n = open_after _ _ _ _ f false (ap is_open c.release.ensures) in
-    (search rules, (search rules, (search rules, (omega arith, tt))))
+    record { long = search rules; few = search rules; given = search rules; ended = omega arith }
 
 pub returns : goal.returns
 returns c =
