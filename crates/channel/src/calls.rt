@@ -21,7 +21,7 @@ impl<S: Stage> Channel<S> {
         ensures number { result.number ≡ number }
         ensures stage { result.stage ≡ stage }
         ensures book { page result.register ≡ blank }
-        ensures law { Led (S.Stage.meaning stage) number [] (page result.register) }
+        ensures law { Led (S.meaning stage) number [] (page result.register) }
     {
         Channel {
             number,
@@ -34,9 +34,9 @@ impl<S: Stage> Channel<S> {
     pub fn open(&mut self, argument: i32) -> Result<Point, Refusal>
         ensures number { self.new.number ≡ self.old.number }
         ensures stage { self.new.stage ≡ self.old.stage }
-        ensures book { page self.new.register ≡ next (S.Stage.meaning self.old.stage) self.old.number (page self.old.register) (call.Open argument) }
-        ensures told { Some (of_open result) ≡ told (S.Stage.meaning self.old.stage) self.old.number (page self.old.register) (call.Open argument) }
-        ensures law { GoesOn (S.Stage.meaning self.old.stage) self.old.number (page self.old.register) (call.Open argument) (of_open result) (page self.new.register) }
+        ensures book { page self.new.register ≡ next (S.meaning self.old.stage) self.old.number (page self.old.register) (call.Open argument) }
+        ensures told { Some (of_open result) ≡ told (S.meaning self.old.stage) self.old.number (page self.old.register) (call.Open argument) }
+        ensures law { GoesOn (S.meaning self.old.stage) self.old.number (page self.old.register) (call.Open argument) (of_open result) (page self.new.register) }
     {
         let Some(argument) = Argument::new(argument) else {
             return Err(Refusal::ArgumentOutOfLimits);
@@ -52,9 +52,9 @@ impl<S: Stage> Channel<S> {
     pub fn file(&mut self, point: Point, reading: i32) -> Result<Filed, Refusal>
         ensures number { self.new.number ≡ self.old.number }
         ensures stage { self.new.stage ≡ self.old.stage }
-        ensures book { page self.new.register ≡ next (S.Stage.meaning self.old.stage) self.old.number (page self.old.register) (call.File point.number point.serial reading) }
-        ensures told { Some (of_file result) ≡ told (S.Stage.meaning self.old.stage) self.old.number (page self.old.register) (call.File point.number point.serial reading) }
-        ensures law { GoesOn (S.Stage.meaning self.old.stage) self.old.number (page self.old.register) (call.File point.number point.serial reading) (of_file result) (page self.new.register) }
+        ensures book { page self.new.register ≡ next (S.meaning self.old.stage) self.old.number (page self.old.register) (call.File point.number point.serial reading) }
+        ensures told { Some (of_file result) ≡ told (S.meaning self.old.stage) self.old.number (page self.old.register) (call.File point.number point.serial reading) }
+        ensures law { GoesOn (S.meaning self.old.stage) self.old.number (page self.old.register) (call.File point.number point.serial reading) (of_file result) (page self.new.register) }
     {
         let Point { number, serial } = point;
         if number != self.number {
@@ -68,9 +68,9 @@ impl<S: Stage> Channel<S> {
     pub fn abort(&mut self, point: Point) -> Result<u32, Refusal>
         ensures number { self.new.number ≡ self.old.number }
         ensures stage { self.new.stage ≡ self.old.stage }
-        ensures book { page self.new.register ≡ next (S.Stage.meaning self.old.stage) self.old.number (page self.old.register) (call.Abort point.number point.serial) }
-        ensures told { Some (of_abort result) ≡ told (S.Stage.meaning self.old.stage) self.old.number (page self.old.register) (call.Abort point.number point.serial) }
-        ensures law { GoesOn (S.Stage.meaning self.old.stage) self.old.number (page self.old.register) (call.Abort point.number point.serial) (of_abort result) (page self.new.register) }
+        ensures book { page self.new.register ≡ next (S.meaning self.old.stage) self.old.number (page self.old.register) (call.Abort point.number point.serial) }
+        ensures told { Some (of_abort result) ≡ told (S.meaning self.old.stage) self.old.number (page self.old.register) (call.Abort point.number point.serial) }
+        ensures law { GoesOn (S.meaning self.old.stage) self.old.number (page self.old.register) (call.Abort point.number point.serial) (of_abort result) (page self.new.register) }
     {
         let Point { number, serial } = point;
         if number != self.number {
@@ -84,9 +84,9 @@ impl<S: Stage> Channel<S> {
     pub fn withdraw(&mut self, serial: u32) -> Result<u32, Refusal>
         ensures number { self.new.number ≡ self.old.number }
         ensures stage { self.new.stage ≡ self.old.stage }
-        ensures book { page self.new.register ≡ next (S.Stage.meaning self.old.stage) self.old.number (page self.old.register) (call.Withdraw serial) }
-        ensures told { Some (of_withdraw result) ≡ told (S.Stage.meaning self.old.stage) self.old.number (page self.old.register) (call.Withdraw serial) }
-        ensures law { GoesOn (S.Stage.meaning self.old.stage) self.old.number (page self.old.register) (call.Withdraw serial) (of_withdraw result) (page self.new.register) }
+        ensures book { page self.new.register ≡ next (S.meaning self.old.stage) self.old.number (page self.old.register) (call.Withdraw serial) }
+        ensures told { Some (of_withdraw result) ≡ told (S.meaning self.old.stage) self.old.number (page self.old.register) (call.Withdraw serial) }
+        ensures law { GoesOn (S.meaning self.old.stage) self.old.number (page self.old.register) (call.Withdraw serial) (of_withdraw result) (page self.new.register) }
     {
         self.register.withdraw(serial)?;
         Ok(serial)
@@ -96,8 +96,8 @@ impl<S: Stage> Channel<S> {
     pub fn clear(&mut self)
         ensures number { self.new.number ≡ self.old.number }
         ensures stage { self.new.stage ≡ self.old.stage }
-        ensures book { page self.new.register ≡ next (S.Stage.meaning self.old.stage) self.old.number (page self.old.register) call.Clear }
-        ensures law { GoesOn (S.Stage.meaning self.old.stage) self.old.number (page self.old.register) call.Clear answer.Cleared (page self.new.register) }
+        ensures book { page self.new.register ≡ next (S.meaning self.old.stage) self.old.number (page self.old.register) call.Clear }
+        ensures law { GoesOn (S.meaning self.old.stage) self.old.number (page self.old.register) call.Clear answer.Cleared (page self.new.register) }
     {
         self.register.clear();
     }
@@ -105,7 +105,7 @@ impl<S: Stage> Channel<S> {
     // What happened since the last clearing, and what is open and held now.
     pub fn tallies(&self) -> Tallies
         ensures told { result ≡ tallies (page self.now.register) }
-        ensures law { GoesOn (S.Stage.meaning self.now.stage) self.now.number (page self.now.register) call.Tallies (answer.Counted result) (page self.now.register) }
+        ensures law { GoesOn (S.meaning self.now.stage) self.now.number (page self.now.register) call.Tallies (answer.Counted result) (page self.now.register) }
     {
         self.register.tallies()
     }

@@ -52,8 +52,8 @@ fn value_answer<S: Stage>(channel: &Channel<S>, argument: i32) -> Answer
 fn perform<S: Stage>(channel: &mut Channel<S>, call: Call) -> Answer
     ensures number { channel.new.number ≡ channel.old.number }
     ensures stage { channel.new.stage ≡ channel.old.stage }
-    ensures book { page channel.new.register ≡ next (S.Stage.meaning channel.old.stage) channel.old.number (page channel.old.register) call }
-    ensures told { Answers (told (S.Stage.meaning channel.old.stage) channel.old.number (page channel.old.register) call) (Says (held channel.old.register.places.all) call result) result }
+    ensures book { page channel.new.register ≡ next (S.meaning channel.old.stage) channel.old.number (page channel.old.register) call }
+    ensures told { Answers (told (S.meaning channel.old.stage) channel.old.number (page channel.old.register) call) (Says (held channel.old.register.places.all) call result) result }
 {
     match call {
         Call::Open { argument } => match channel.open(argument) {
@@ -97,7 +97,7 @@ fn perform<S: Stage>(channel: &mut Channel<S>, call: Call) -> Answer
 pub fn replay<S: Stage>(number: u16, stage: S, calls: &[Call], answers: &mut [Answer]) -> Channel<S>
     ensures number { result.number ≡ number }
     ensures stage { result.stage ≡ stage }
-    ensures run { Whole (S.Stage.meaning stage) number (take (min (length calls.now) (length answers.old)) calls.now) (take (min (length calls.now) (length answers.old)) answers.new) (page result.register) }
+    ensures run { Whole (S.meaning stage) number (take (min (length calls.now) (length answers.old)) calls.now) (take (min (length calls.now) (length answers.old)) answers.new) (page result.register) }
     ensures rest { drop (min (length calls.now) (length answers.old)) answers.new ≡ drop (min (length calls.now) (length answers.old)) answers.old }
 {
     let mut channel = Channel::new(number, stage);

@@ -20,7 +20,7 @@ pub(crate) fn load<'a, S: Stage>(
 ) -> (Option<Point>, Line<'a>)
     ensures number { channel.new.number ≡ channel.old.number }
     ensures stage { channel.new.stage ≡ channel.old.stage }
-    ensures made { Made (S.Stage.meaning channel.old.stage) channel.old.number (page channel.old.register) (call.Open argument) [] (page channel.new.register) result.0 result.1 }
+    ensures made { Made (S.meaning channel.old.stage) channel.old.number (page channel.old.register) (call.Open argument) [] (page channel.new.register) result.0 result.1 }
     ensures reason { reason_of result.1 ≡ [] }
 {
     match channel.open(argument) {
@@ -36,7 +36,7 @@ pub(crate) fn load<'a, S: Stage>(
 pub(crate) fn withdraw<'a, S: Stage>(channel: &mut Channel<S>, serial: u32) -> Line<'a>
     ensures number { channel.new.number ≡ channel.old.number }
     ensures stage { channel.new.stage ≡ channel.old.stage }
-    ensures made { Made (S.Stage.meaning channel.old.stage) channel.old.number (page channel.old.register) (call.Withdraw serial) [] (page channel.new.register) None result }
+    ensures made { Made (S.meaning channel.old.stage) channel.old.number (page channel.old.register) (call.Withdraw serial) [] (page channel.new.register) None result }
     ensures reason { reason_of result ≡ [] }
 {
     match channel.withdraw(serial) {
@@ -49,7 +49,7 @@ pub(crate) fn withdraw<'a, S: Stage>(channel: &mut Channel<S>, serial: u32) -> L
 pub(crate) fn clear<'a, S: Stage>(channel: &mut Channel<S>) -> Line<'a>
     ensures number { channel.new.number ≡ channel.old.number }
     ensures stage { channel.new.stage ≡ channel.old.stage }
-    ensures made { Made (S.Stage.meaning channel.old.stage) channel.old.number (page channel.old.register) call.Clear [] (page channel.new.register) None result }
+    ensures made { Made (S.meaning channel.old.stage) channel.old.number (page channel.old.register) call.Clear [] (page channel.new.register) None result }
     ensures reason { reason_of result ≡ [] }
 {
     channel.clear();
@@ -58,7 +58,7 @@ pub(crate) fn clear<'a, S: Stage>(channel: &mut Channel<S>) -> Line<'a>
 
 // The line of the tallies.
 pub(crate) fn tally<'a, S: Stage>(channel: &Channel<S>) -> Line<'a>
-    ensures made { Made (S.Stage.meaning channel.now.stage) channel.now.number (page channel.now.register) call.Tallies [] (page channel.now.register) None result }
+    ensures made { Made (S.meaning channel.now.stage) channel.now.number (page channel.now.register) call.Tallies [] (page channel.now.register) None result }
     ensures reason { reason_of result ≡ [] }
 {
     let tallies = channel.tallies();
@@ -84,7 +84,7 @@ fn judged<'a>(verdict: Verdict) -> Line<'a>
 
 // The line of the verdict.
 pub(crate) fn verdict<'a, S: Stage>(channel: &Channel<S>) -> Line<'a>
-    ensures made { Made (S.Stage.meaning channel.now.stage) channel.now.number (page channel.now.register) call.Verdict [] (page channel.now.register) None result }
+    ensures made { Made (S.meaning channel.now.stage) channel.now.number (page channel.now.register) call.Verdict [] (page channel.now.register) None result }
     ensures reason { reason_of result ≡ [] }
 {
     match channel.verdict() {
@@ -95,7 +95,7 @@ pub(crate) fn verdict<'a, S: Stage>(channel: &Channel<S>) -> Line<'a>
 
 // The line of the least and the greatest slope.
 pub(crate) fn slope<'a, S: Stage>(channel: &Channel<S>) -> Line<'a>
-    ensures made { Made (S.Stage.meaning channel.now.stage) channel.now.number (page channel.now.register) call.Slope [] (page channel.now.register) None result }
+    ensures made { Made (S.meaning channel.now.stage) channel.now.number (page channel.now.register) call.Slope [] (page channel.now.register) None result }
     ensures reason { reason_of result ≡ [] }
 {
     match channel.slope() {
@@ -106,7 +106,7 @@ pub(crate) fn slope<'a, S: Stage>(channel: &Channel<S>) -> Line<'a>
 
 // The line of the least and the greatest value at an argument.
 pub(crate) fn value<'a, S: Stage>(channel: &Channel<S>, argument: i32) -> Line<'a>
-    ensures made { Made (S.Stage.meaning channel.now.stage) channel.now.number (page channel.now.register) (call.Value argument) [] (page channel.now.register) None result }
+    ensures made { Made (S.meaning channel.now.stage) channel.now.number (page channel.now.register) (call.Value argument) [] (page channel.now.register) None result }
     ensures reason { reason_of result ≡ [] }
 {
     match channel.value(argument) {

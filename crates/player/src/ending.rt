@@ -14,7 +14,7 @@ use stage::stage::Stage;
 pub(crate) fn file<'a, S: Stage>(channel: &mut Channel<S>, point: Point, reading: i32) -> Line<'a>
     ensures number { channel.new.number ≡ channel.old.number }
     ensures stage { channel.new.stage ≡ channel.old.stage }
-    ensures made { Made (S.Stage.meaning channel.old.stage) channel.old.number (page channel.old.register) (call.File point.number point.serial reading) [] (page channel.new.register) None result }
+    ensures made { Made (S.meaning channel.old.stage) channel.old.number (page channel.old.register) (call.File point.number point.serial reading) [] (page channel.new.register) None result }
     ensures reason { reason_of result ≡ [] }
 {
     let serial = point.serial();
@@ -37,7 +37,7 @@ pub(crate) fn abort<'a, S: Stage>(
     requires { length reason.now ≤ 15 }
     ensures number { channel.new.number ≡ channel.old.number }
     ensures stage { channel.new.stage ≡ channel.old.stage }
-    ensures made { Made (S.Stage.meaning channel.old.stage) channel.old.number (page channel.old.register) (call.Abort point.number point.serial) reason.now (page channel.new.register) None result }
+    ensures made { Made (S.meaning channel.old.stage) channel.old.number (page channel.old.register) (call.Abort point.number point.serial) reason.now (page channel.new.register) None result }
     ensures reason { length (reason_of result) ≤ 15 }
 {
     let serial = match channel.abort(point) {

@@ -21,7 +21,7 @@ pub fn play_on<S: Stage + Drop>(
     tape: &[u8],
     out: &mut [u8],
 ) -> Result<usize, Refusal>
-    ensures { Played (S.Stage.meaning stage) number tape.now out.old out.new result }
+    ensures { Played (S.meaning stage) number tape.now out.old out.new result }
 {
     if out.len() / 80 < tape.len().min(4096) {
         return Err(Refusal::LineNotWritten);

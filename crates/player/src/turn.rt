@@ -31,7 +31,7 @@ pub(crate) fn interrupt<S: Stage>(
     ensures rest { drop result out.new ≡ drop result out.old }
     ensures after { at ≤ result }
     ensures room { result ≤ at + owed pending }
-    ensures run { (all ss : List Said) (s : Said) → interrupts s ≡ true → Reached (S.Stage.meaning channel.old.stage) channel.old.number all pending (s ∷ ss) (page channel.old.register) (take at out.old) → Reached (S.Stage.meaning channel.old.stage) channel.old.number all None (s ∷ ss) (page channel.new.register) (take result out.new) }
+    ensures run { (all ss : List Said) (s : Said) → interrupts s ≡ true → Reached (S.meaning channel.old.stage) channel.old.number all pending (s ∷ ss) (page channel.old.register) (take at out.old) → Reached (S.meaning channel.old.stage) channel.old.number all None (s ∷ ss) (page channel.new.register) (take result out.new) }
 {
     let Some(point) = pending else {
         return at;
@@ -54,7 +54,7 @@ fn read<S: Stage>(
     ensures rest { drop result out.new ≡ drop result out.old }
     ensures after { at ≤ result }
     ensures room { result ≤ at + 80 }
-    ensures run { (all ss : List Said) (k : ℕ) → Reached (S.Stage.meaning channel.old.stage) channel.old.number all pending (framed (read reading) k ∷ ss) (page channel.old.register) (take at out.old) → Reached (S.Stage.meaning channel.old.stage) channel.old.number all None ss (page channel.new.register) (take result out.new) }
+    ensures run { (all ss : List Said) (k : ℕ) → Reached (S.meaning channel.old.stage) channel.old.number all pending (framed (read reading) k ∷ ss) (page channel.old.register) (take at out.old) → Reached (S.meaning channel.old.stage) channel.old.number all None ss (page channel.new.register) (take result out.new) }
 {
     let Some(point) = pending else {
         let passed = refused(Refusal::NoOpenPoint);
@@ -78,7 +78,7 @@ fn give_up<S: Stage>(
     ensures rest { drop result out.new ≡ drop result out.old }
     ensures after { at ≤ result }
     ensures room { result ≤ at + 80 }
-    ensures run { (all ss : List Said) (k : ℕ) → Reached (S.Stage.meaning channel.old.stage) channel.old.number all pending (framed (aborted reason.now) k ∷ ss) (page channel.old.register) (take at out.old) → Reached (S.Stage.meaning channel.old.stage) channel.old.number all None ss (page channel.new.register) (take result out.new) }
+    ensures run { (all ss : List Said) (k : ℕ) → Reached (S.meaning channel.old.stage) channel.old.number all pending (framed (aborted reason.now) k ∷ ss) (page channel.old.register) (take at out.old) → Reached (S.meaning channel.old.stage) channel.old.number all None ss (page channel.new.register) (take result out.new) }
 {
     let Some(point) = pending else {
         let line = refused(Refusal::NoOpenPoint);
@@ -93,7 +93,7 @@ fn ask<'a, S: Stage>(channel: &mut Channel<S>, frame: Frame<'a>) -> Line<'a>
     requires { Plain (says frame) }
     ensures number { channel.new.number ≡ channel.old.number }
     ensures stage { channel.new.stage ≡ channel.old.stage }
-    ensures made { (c : Call) → asked None (says frame.entry) ≡ Some c → Made (S.Stage.meaning channel.old.stage) channel.old.number (page channel.old.register) c [] (page channel.new.register) None result }
+    ensures made { (c : Call) → asked None (says frame.entry) ≡ Some c → Made (S.meaning channel.old.stage) channel.old.number (page channel.old.register) c [] (page channel.new.register) None result }
     ensures reason { reason_of result ≡ [] }
     ensures plain { Plain (says frame.entry) }
 {
@@ -122,7 +122,7 @@ pub(crate) fn turn<'a, S: Stage>(
     ensures rest { drop result.1 out.new ≡ drop result.1 out.old }
     ensures after { at ≤ result.1 }
     ensures room { result.1 + owed result.0 ≤ at + owed pending + brings (says frame.entry) }
-    ensures run { (all ss : List Said) (k : ℕ) → Reached (S.Stage.meaning channel.old.stage) channel.old.number all pending (framed (says frame.entry) k ∷ ss) (page channel.old.register) (take at out.old) → Reached (S.Stage.meaning channel.old.stage) channel.old.number all result.0 ss (page channel.new.register) (take result.1 out.new) }
+    ensures run { (all ss : List Said) (k : ℕ) → Reached (S.meaning channel.old.stage) channel.old.number all pending (framed (says frame.entry) k ∷ ss) (page channel.old.register) (take at out.old) → Reached (S.meaning channel.old.stage) channel.old.number all result.0 ss (page channel.new.register) (take result.1 out.new) }
 {
     match frame {
         Frame::Reading { reading } => (None, read(channel, pending, reading, out, at)),

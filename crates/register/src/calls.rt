@@ -57,8 +57,8 @@ impl Register {
         serial: u32,
         reading: i32,
     ) -> Result<UncertaintySet, Refusal>
-        ensures page { page self.new ≡ files_next (S.Stage.meaning stage.now) (page self.old) serial reading }
-        ensures told { ends result ≡ files_told (S.Stage.meaning stage.now) (page self.old) serial reading }
+        ensures page { page self.new ≡ files_next (S.meaning stage.now) (page self.old) serial reading }
+        ensures told { ends result ≡ files_told (S.meaning stage.now) (page self.old) serial reading }
     {
         let Some(i) = self.places.first(Status::Open { serial }) else {
             return Err(Refusal::PointNotOpen);
