@@ -23,13 +23,13 @@ of_code = (Decides-below_and same_code (λ k. get_or lengths (16 + k) 0 ≡ fixe
 abbrev same_kind : ℕ → ℕ → Bool
 same_kind low k = eqb k 5 || eqb (get_or lengths k 0) (fixed_length k low)
 
-abbrev Same_kind : ℕ → ℕ → Type 0
-Same_kind low k = (k ≡ 5) ⊎ (get_or lengths k 0 ≡ fixed_length k low)
+abbrev SameKind : ℕ → ℕ → Type 0
+SameKind low k = (k ≡ 5) ⊎ (get_or lengths k 0 ≡ fixed_length k low)
 
-same_decides : (low k : ℕ) → Decides (same_kind low k) (Same_kind low k)
+same_decides : (low k : ℕ) → Decides (same_kind low k) (SameKind low k)
 same_decides low k = Decides-or (eqb k 5) (eqb (get_or lengths k 0) (fixed_length k low)) (Decides-eqb k 5) (Decides-eqb (get_or lengths k 0) (fixed_length k low))
 
 pub of_kind_is : (low k : ℕ) → k < 16 → (k ≡ 5 → ⊥) → get_or lengths k 0 ≡ fixed_length k low
 of_kind_is low k h other =
     ⊎_elim (λ five. absurd (other five)) (λ e. e)
-    ((Decides-below_and (same_kind low) (Same_kind low) (below (same_kind low)) (same_decides low) refl (λ _. refl) 16).0 refl k h)
+    ((Decides-below_and (same_kind low) (SameKind low) (below (same_kind low)) (same_decides low) refl (λ _. refl) 16).0 refl k h)

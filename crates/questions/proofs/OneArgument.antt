@@ -14,11 +14,11 @@ use Rattle.lines.proofs.ValueBounds.{value_greatest, value_least}
 use Rattle.lines.proofs.Unbounded.{all_at, no_greatest_slope, no_least_slope, no_greatest_value, no_least_value}
 use Rattle.pairs.specs.declared.quantity.Quantity.TheVariants.{Slope}
 use Rattle.pairs.proofs.Turning.{back}
-use Rattle.questions.specs.Told.{Some_held, Bounds, NoBounds}
+use Rattle.questions.specs.Told.{SomeHeld, Bounds, NoBounds}
 use Rattle.questions.specs.Asked.{GreatestLower}
 use Rattle.questions.proofs.Extremes.{least_written, greatest_written}
 
-module _ (s : List Measurement) (some : Some_held s) (line : Consistent s) (one : OneArgument s) where
+module _ (s : List Measurement) (some : SomeHeld s) (line : Consistent s) (one : OneArgument s) where
   pub no_slope : NoBounds slope s refusal.OneArgument
   no_slope = inr (inr (some, line, one, (λ b. (no_least_slope s one b, no_greatest_slope s one b)), refl))
 

@@ -16,8 +16,8 @@ use Rattle.questions.specs.declared.verdict.Verdict.{Verdict}
 use Rattle.questions.specs.declared.verdict.Verdict.TheVariants as verdict
 
 -- something is held
-abbrev pub Some_held : List Measurement → Type 0
-Some_held s = (m : Measurement) × Has s m
+abbrev pub SomeHeld : List Measurement → Type 0
+SomeHeld s = (m : Measurement) × Has s m
 
 -- two held measurements that no line meets, by their serials in rising order
 pub record TwoNamed (s : List Measurement) (i j : ℕ) : Type 0 where
@@ -57,7 +57,7 @@ Named s c = NamedBy s c.first c.second c.third
 
 -- the verdict: "line" exactly if an admissible line exists
 abbrev pub TellsVerdict : List Measurement → Result Verdict Refusal → Type 0
-TellsVerdict s (Ok verdict.Line) = Some_held s × Consistent s
+TellsVerdict s (Ok verdict.Line) = SomeHeld s × Consistent s
 TellsVerdict s (Ok (verdict.Conflict c)) = Conflict s × Named s c
 TellsVerdict s (Err e) = (s ≡ []) × (e ≡ refusal.NothingHeld)
 
@@ -77,10 +77,10 @@ abbrev pub NoBounds : (Line → Rational) → List Measurement → Refusal → T
 NoBounds f s e =
     ((s ≡ []) × (e ≡ refusal.NothingHeld))
     ⊎ (((c : Naming) × Conflict s × Named s c × (e ≡ refusal.NoAdmissibleLine c))
-    ⊎ (Some_held s × Consistent s × OneArgument s × Unbounded f s × (e ≡ refusal.OneArgument)))
+    ⊎ (SomeHeld s × Consistent s × OneArgument s × Unbounded f s × (e ≡ refusal.OneArgument)))
 
 abbrev pub TellsBounds : (Line → Rational) → List Measurement → Result (Fraction × Fraction) Refusal → Type 0
-TellsBounds f s (Ok p) = Some_held s × Consistent s × Bounds f s p.0 p.1
+TellsBounds f s (Ok p) = SomeHeld s × Consistent s × Bounds f s p.0 p.1
 TellsBounds f s (Err e) = NoBounds f s e
 
 abbrev pub TellsSlope : List Measurement → Result (Fraction × Fraction) Refusal → Type 0

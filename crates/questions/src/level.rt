@@ -2,7 +2,7 @@ ghost use Rattle.lines.specs.Sheet.{Consistent, OneArgument};
 ghost use Rattle.places.specs.Held.{held};
 ghost use Rattle.pairs.specs.Low.{quantity_of};
 ghost use Rattle.questions.specs.Asked.{GreatestLower, Higher};
-ghost use Rattle.questions.specs.Told.{Some_held, TellsBounds};
+ghost use Rattle.questions.specs.Told.{SomeHeld, TellsBounds};
 
 use exact::argument::Argument;
 use exact::fraction::Fraction;
@@ -16,7 +16,7 @@ pub(crate) fn at_one_argument(
     quantity: Quantity,
     places: &Places,
 ) -> Result<(Fraction, Fraction), Refusal>
-    requires held { Some_held (held places.now.all) }
+    requires held { SomeHeld (held places.now.all) }
     requires line { Consistent (held places.now.all) }
     requires one { OneArgument (held places.now.all) }
     ensures { TellsBounds (quantity_of quantity) (held places.now.all) result }
