@@ -1,7 +1,7 @@
 #!/usr/bin/env python3
 """Plays random tapes with the tape program and compares every line with a slow evaluator that tests every pair and every triple.
 
-    python3 trials/compare.py [TAPES] [SEED]      after `make run`, which builds crates/tape/out/tape
+    python3 trials/compare.py [TAPES] [SEED] [PROGRAM]      after `make run`, which builds crates/tape/out/tape, the program where none is named
 
 The slow evaluator shares nothing with the program: readings, places and tallies in plain lists, lines as vertices of what is admissible,
 all numbers exact fractions. Of a conflict it checks that the named serials are held, rise and conflict, and that a third is named only
@@ -231,11 +231,12 @@ def same(line, want):
 def main():
     tapes = int(sys.argv[1]) if len(sys.argv) > 1 else 500
     rng = random.Random(int(sys.argv[2]) if len(sys.argv) > 2 else 1)
+    program = sys.argv[3] if len(sys.argv) > 3 else 'crates/tape/out/tape'
     compared = 0
     for k in range(tapes):
         frames = tape(rng)
         data = b''.join(encode(*f) for f in frames)
-        lines = subprocess.run(['crates/tape/out/tape'], input=data, capture_output=True, check=True).stdout.decode().splitlines()
+        lines = subprocess.run([program], input=data, capture_output=True, check=True).stdout.decode().splitlines()
         want = expected(frames)
         if len(lines) != len(want) or not all(map(same, lines, want)):
             print(f'tape {k} differs: {data.hex(" ")}')
