@@ -22,9 +22,9 @@ fn pass_on(refusal: Refusal, above: u8) -> Refusal
 }
 
 impl<U: Stage, L: Stage> Stage for Chain<U, L> {
-    ghost meaning = { λ s. chained (U.Stage.meaning s.upper) (L.Stage.meaning s.lower) };
+    ghost meaning = { λ s. chained (U.meaning s.upper) (L.meaning s.lower) };
 
-    ghost sound = { λ s. chained_sound _ _ (U.Stage.sound s.upper) (L.Stage.sound s.lower) };
+    ghost sound = { λ s. chained_sound _ _ (U.sound s.upper) (L.sound s.lower) };
 
     fn count(&self) -> u8 {
         self.upper.count().saturating_add(self.lower.count())

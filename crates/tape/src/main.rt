@@ -3,7 +3,7 @@
 
 ghost use Rattle.std.specs.Prelude.{◌≤◌, length, IfOk};
 
-use anyhow::{Context, anyhow};
+use anyhow::anyhow;
 use player::play::play;
 use std::io::{Read, Write};
 use std::process::ExitCode;
@@ -44,26 +44,31 @@ fn play_from(rt: &HostRuntime, source: &mut impl Read) -> anyhow::Result<()> {
     Ok(())
 }
 
-// Plays the tape in a file.
-fn play_file(rt: &HostRuntime, path: &str) -> anyhow::Result<()> {
+// Plays the tape in a file, or says why the file cannot be read.
+fn play_file(rt: &HostRuntime, path: &str) -> anyhow::Result<ExitCode> {
     match fs::open(rt, path) {
-        Ok(mut file) => play_from(rt, &mut file),
-        Err(error) => Err(error).context(format_args!("{path} cannot be read")),
+        Ok(mut file) => play_from(rt, &mut file)?,
+        Err(error) => {
+            eprintln!(rt; "tape: {path} cannot be read: {error}")?;
+            return Ok(ExitCode::FAILURE);
+        }
     }
+    Ok(ExitCode::SUCCESS)
 }
 
-fn run(rt: &HostRuntime) -> anyhow::Result<()> {
+fn run(rt: &HostRuntime) -> anyhow::Result<ExitCode> {
     match env::args(rt)?.nth(1) {
-        Some(path) => play_file(rt, path.as_str()),
-        None => play_from(rt, &mut rt.stdin()),
+        Some(path) => return play_file(rt, path.as_str()),
+        None => play_from(rt, &mut rt.stdin())?,
     }
+    Ok(ExitCode::SUCCESS)
 }
 
 fn main(rt: HostRuntime) -> anyhow::Result<ExitCode> {
     match run(&rt) {
-        Ok(()) => Ok(ExitCode::SUCCESS),
+        Ok(code) => Ok(code),
         Err(error) => {
-            eprintln!(rt; "tape: {error:#}")?;
+            eprintln!(rt; "tape: {error}")?;
             Ok(ExitCode::FAILURE)
         }
     }
