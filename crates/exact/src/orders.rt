@@ -1,7 +1,6 @@
-ghost use Rattle.std.specs.Prelude.{◌*ℤ◌, int_le};
-ghost use Rattle.rational.specs.Rational.{Rational};
+ghost use Rattle.std.specs.Prelude.{int_le};
 ghost use Rattle.exact.specs.Quantity.{quantity, at_most};
-ghost use Rattle.std.proofs.Common.{rules, arith};
+ghost use Rattle.std.proofs.Common.{rules};
 ghost use Rattle.algebra.proofs.Ring.{le_test, test_le};
 ghost use Rattle.rational.proofs.Order.{≼_trans};
 
@@ -25,7 +24,7 @@ impl Order for i32 {
 impl Order for Fraction {
     ghost under = { λ a b. at_most (quantity a) (quantity b) };
 
-    ghost total = { first_of (Prim.search rules, Prim.grind (arith, Self.row.coded.inj)) };
+    ghost total = { Prim.search rules };
 
     ghost transitive = { λ a b c h k. le_test (≼_trans (quantity a) (quantity b) (quantity c) (test_le h) (test_le k)) };
 

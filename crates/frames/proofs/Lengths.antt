@@ -29,7 +29,7 @@ SameKind low k = (k ≡ 5) ⊎ (get_or lengths k 0 ≡ fixed_length k low)
 same_decides : (low k : ℕ) → Decides (same_kind low k) (SameKind low k)
 same_decides low k = Decides-or (eqb k 5) (eqb (get_or lengths k 0) (fixed_length k low)) (Decides-eqb k 5) (Decides-eqb (get_or lengths k 0) (fixed_length k low))
 
-pub of_kind_is : (low k : ℕ) → k < 16 → (k ≡ 5 → ⊥) → get_or lengths k 0 ≡ fixed_length k low
-of_kind_is low k h other =
+pub length_of_kind : (low k : ℕ) → k < 16 → (k ≡ 5 → ⊥) → get_or lengths k 0 ≡ fixed_length k low
+length_of_kind low k h other =
     ⊎_elim (λ five. absurd (other five)) (λ e. e)
     ((Decides-below_and (same_kind low) (SameKind low) (below (same_kind low)) (same_decides low) refl (λ _. refl) 16).0 refl k h)

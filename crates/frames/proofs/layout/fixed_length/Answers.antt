@@ -1,6 +1,6 @@
 use Rattle.std.proofs.Common.{◌/◌, ◌%◌, ◌<◌, sym, ap, ◌∙◌, arith, rules}
 use Rattle.frames.specs.Tape.{fixed_length}
-use Rattle.frames.proofs.Lengths.{of_code, of_kind_is}
+use Rattle.frames.proofs.Lengths.{of_code, length_of_kind}
 use Rattle.frames.proofs.layout.fixed_length.Goals as goal
 
 pub returns-then-kind-eq-QUESTION : goal.returns-then-kind-eq-QUESTION
@@ -12,4 +12,4 @@ pub returns-else-kind-eq-QUESTION : goal.returns-else-kind-eq-QUESTION
 returns-else-kind-eq-QUESTION c =
     let head = c.args.head in
     let fits : head < 256 = search rules in
-    of_kind_is (head % 16) (head / 16) (omega arith) c.if-kind-eq-QUESTION.false
+    length_of_kind (head % 16) (head / 16) (omega arith) c.if-kind-eq-QUESTION.false

@@ -10,18 +10,18 @@ use Rattle.questions.proofs.Meeting.{Meet, above_conflict}
 use Rattle.questions.proofs.apart.apart.Goals as goal
 
 -- it meets all
-abbrev Meets-all : List Place → Measurement → Type 0
-Meets-all ps x = (y : Measurement) → Has (held ps) y → Meet x y
+abbrev MeetsAll : List Place → Measurement → Type 0
+MeetsAll ps x = (y : Measurement) → Has (held ps) y → Meet x y
 
 pub loop-a-init : goal.loop-a-init
-loop-a-init c = let ps = c.args.places.now.all in (row_none (Meets-all ps) ps, λ more. absurd (omega arith))
+loop-a-init c = let ps = c.args.places.now.all in (row_none (MeetsAll ps) ps, λ more. absurd (omega arith))
 
 pub loop-a-preserved-in_default : goal.loop-a-preserved-in_default
 loop-a-preserved-in_default c =
     let ps = c.args.places.now.all in
     let lt : c.loop-a.a-index < 64 = c.loop-a-test.true in
     let long : length ps ≡ 64 = search rules in
-    (row_same (Meets-all ps) ps c.loop-a.a-index (omega arith) _ (sym c.in_default.ensures) c.loop-a.invariant.0, λ more. long)
+    (row_same (MeetsAll ps) ps c.loop-a.a-index (omega arith) _ (sym c.in_default.ensures) c.loop-a.invariant.0, λ more. long)
 
 pub loop-b-init : goal.loop-b-init
 loop-b-init c =
@@ -45,7 +45,7 @@ loop-b-preserved c =
 pub loop-a-preserved : goal.loop-a-preserved
 loop-a-preserved c =
     let ps = c.args.places.now.all in let a = c.in-Some.first in let (row, long) = c.loop-b.invariant in (
-      row_more (Meets-all ps) ps c.loop-a.a-index (omega (arith, c.loop-a-test.true)) _ a (sym c.in-Some.ensures)
+      row_more (MeetsAll ps) ps c.loop-a.a-index (omega (arith, c.loop-a-test.true)) _ a (sym c.in-Some.ensures)
           (row_all (Meet (measured a)) ps c.loop-b.b-index (omega (arith, c.loop-b-test.false)) row) c.loop-a.invariant.0,
       λ more. long,
     )
@@ -62,4 +62,4 @@ pub returns : goal.returns
 returns c =
     let ps = c.args.places.now.all in let (rows, seen) = c.loop-a.invariant in
     let long : length ps ≡ 64 = seen (omega (arith, c.loop-a-test.false)) in
-    λ a b atA. row_all (Meets-all ps) ps c.loop-a.a-index (omega (arith, c.loop-a-test.false)) rows a atA b
+    λ a b atA. row_all (MeetsAll ps) ps c.loop-a.a-index (omega (arith, c.loop-a-test.false)) rows a atA b

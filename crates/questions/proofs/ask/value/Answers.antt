@@ -7,11 +7,11 @@ use Rattle.places.specs.Held.{held}
 use Rattle.questions.specs.Told.{TellsBounds}
 use Rattle.questions.proofs.ask.value.Goals as goal
 
-in-limits : (a : Argument) → NoArgument a.value → ⊥
-in-limits a = ⊎_elim (λ below. omega (arith, ints, a.low)) (λ above. omega (arith, ints, a.high))
+in_limits : (a : Argument) → NoArgument a.value → ⊥
+in_limits a = ⊎_elim (λ below. omega (arith, ints, a.low)) (λ above. omega (arith, ints, a.high))
 
 pub returns : goal.returns
 returns c =
     let s = held c.args.places.now.all in let a = c.in-Some.argument in
     let same : a.value ≡ c.args.argument = c.in-Some.ensures ∙ to_z-of_z w32 _ c.ranges.argument in
-    inr (subst (λ x. NoArgument x → ⊥) same (in-limits a), subst (λ x. TellsBounds (λ l. value_at l x) s c.bounds.result) same c.bounds.ensures)
+    inr (subst (λ x. NoArgument x → ⊥) same (in_limits a), subst (λ x. TellsBounds (λ l. value_at l x) s c.bounds.result) same c.bounds.ensures)

@@ -9,15 +9,15 @@ use Rattle.questions.proofs.Lowers.{Lowest, lowest_none, lowest_all, lowest_same
 use Rattle.questions.proofs.level.greatest_lower.Goals as goal
 use Rattle.questions.proofs.level.greatest_lower.Goals.{then-sample-argument, else-sample-argument}
 
-same-argument : (a b : Argument) → of_z w32 a.value ≡ of_z w32 b.value → a.value ≡ b.value
-same-argument a b e =
+same_argument : (a b : Argument) → of_z w32 a.value ≡ of_z w32 b.value → a.value ≡ b.value
+same_argument a b e =
     let fa : SFits w32 a.value = fits_in w32 a.value (omega (arith, ints, a.low, a.high)) in
     let fb : SFits w32 b.value = fits_in w32 b.value (omega (arith, ints, b.low, b.high)) in
     sym (to_z-of_z w32 _ fa) ∙ ap (to_z w32) e ∙ to_z-of_z w32 _ fb
 
 -- the numbers as they are passed
-as-told : (best : Option ℤ) (a : Sample) (v : ℤ) → SFits w32 v → Higher best (to_z w32 (of_z w32 a.set.lower)) v → Higher best a.set.lower (to_z w32 (of_z w32 v))
-as-told best a v fits h =
+as_told : (best : Option ℤ) (a : Sample) (v : ℤ) → SFits w32 v → Higher best (to_z w32 (of_z w32 a.set.lower)) v → Higher best a.set.lower (to_z w32 (of_z w32 v))
+as_told best a v fits h =
     subst (λ r. Higher best a.set.lower r) (sym (to_z-of_z w32 v fits)) (subst (λ z. Higher best z v) (to_z-of_z w32 _ (lower_fits a)) h)
 
 pub loop-place-init : goal.loop-place-init
@@ -36,8 +36,8 @@ loop-place-preserved c =
     let Next : Option ℤ → Type 0 = Lowest x.value ps (c.loop-place.place-index + 1) in
     elim c.if-sample-argument.branch [
       | then-sample-argument w ↦ subst Next (sym w.best-is)
-          (lowest_higher x.value ps c.loop-place.place-index c.loop-place.best c.loop-place.invariant long c.loop-place-test.true _ a (sym c.in-Some.ensures) _ (same-argument a.argument x w.if-sample-argument.true)
-          (let fits : SFits w32 w.higher.result = search rules in as-told c.loop-place.best a w.higher.result fits w.higher.ensures))
+          (lowest_higher x.value ps c.loop-place.place-index c.loop-place.best c.loop-place.invariant long c.loop-place-test.true _ a (sym c.in-Some.ensures) _ (same_argument a.argument x w.if-sample-argument.true)
+          (let fits : SFits w32 w.higher.result = search rules in as_told c.loop-place.best a w.higher.result fits w.higher.ensures))
       | else-sample-argument w ↦ subst Next (sym w.best-is)
           (lowest_elsewhere x.value ps c.loop-place.place-index c.loop-place.best c.loop-place.invariant long c.loop-place-test.true _ a (sym c.in-Some.ensures) (λ e. w.if-sample-argument.false (ap (of_z w32) e)))
     ]
