@@ -57,7 +57,7 @@ def main():
         calls += [(f'value, {n} held', sheet(n), value(50)) for n in (2, 8, 64)]
         calls += [('tallies, 64 held', sheet(64), TALLIES)]
         calls += [('load and abort, none held', b'', load(5) + b'\x30')]
-        calls += [('load and reading, all swept before', b'', load(5) + reading(100) + b'\x60')]
+        calls += [('load, reading and clearing', b'', load(5) + reading(100) + b'\x60')]
         print(f'{"instructions for one":36}{"tape":>10}{"plain":>10}{"times":>8}')
         for name, before, call in calls:
             ours, theirs = cost(program, before, call), cost(plain, before, call)
