@@ -3,8 +3,8 @@
 
     python3 trials/cost.py [PROGRAM]      after `make run`, which builds crates/tape/out/tape; wants rustc and valgrind
 
-Each figure is the difference between two tapes, one with 200 of a call and one with 100, over 100; so starting, reading the tape and the
-measurements before the call do not count, and printing the answer's line does. The counts are callgrind's, the same at each run.
+Each figure is the difference between two tapes, one with 200 of a call and one with 100, over 100; so starting and the measurements
+before the call do not count, and reading its frame and printing its line do. The counts are callgrind's, the same at each run.
 """
 import re
 import subprocess
