@@ -1,5 +1,5 @@
 -- From what is known of the rows to what is said of the positions, and back.
-use Rattle.std.specs.Prelude.{◌≡◌, ℕ, ◌+◌, ◌-◌, ◌<◌, ◌≤◌, Bool, true, false, cond, not, ◌&&◌, ◌||◌, List, length, ℤ, Some, ◌==◌, nat_lt}
+use Rattle.std.specs.Prelude.{◌≡◌, ℕ, ◌+◌, ◌-◌, ◌<◌, ◌≤◌, Bool, true, false, cond, ◌&&◌, ◌||◌, List, length, ℤ, Some, ◌==◌, nat_lt}
 use Rattle.std.proofs.Common.{sym, ap, ◌∙◌, arith}
 use Rattle.std.proofs.lemmas.Bool.Decides.{nat_tests}
 use Rattle.band.specs.declared.row.Row.{Row}
@@ -17,15 +17,6 @@ count_few n h = (grind (arith, nat_tests), grind (arith, nat_tests))
 
 pub count_fine : (n : ℕ) → 1 ≤ n → n ≤ 16 → (nat_lt n 1 || nat_lt 16 n) ≡ false
 count_fine n h k = grind (arith, nat_tests)
-
-pub bad_itself : (i f : Bool) (k : ℕ) → i ≡ false → (not i || (nat_lt 0 k && not f)) ≡ true
-bad_itself i f k h = grind (arith, nat_tests)
-
-pub bad_pair : (i f : Bool) (k : ℕ) → 0 < k → f ≡ false → (not i || (nat_lt 0 k && not f)) ≡ true
-bad_pair i f k lt h = grind (arith, nat_tests)
-
-pub fine_pair : (i f : Bool) (k : ℕ) → i ≡ true → (0 < k → f ≡ true) → (not i || (nat_lt 0 k && not f)) ≡ false
-fine_pair i f k h g = grind (arith, nat_tests)
 
 -- a position before the one of the row at i
 before : (q i n : ℕ) (count last here : Bool) → i < 16 → q < i + 1 → count ≡ false → (0 < q → q - 1 < i → here ≡ false) → pick q n count last here ≡ false

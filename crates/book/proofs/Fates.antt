@@ -7,7 +7,7 @@ use Rattle.std.proofs.lemmas.Bool.{cases_Bool, cases_lt, cases_eq, eqb-true, eq-
 use Rattle.book.specs.Limits.{place_count}
 use Rattle.book.specs.Book.{Book, Spot, Free, Open, Held, is_free, open_as, held_as, first, found}
 use Rattle.book.specs.Book as book
-use Rattle.book.specs.Law.{Event, Fate, never, open_at, held_at, spoiled, aborted, withdrawn, swept, is_open, is_held, fate, given, up_to, serials, open_count, held_count}
+use Rattle.book.specs.Law.{Event, Fate, never, open_at, held_at, is_open, is_held, fate, given, up_to, serials, open_count, held_count}
 use Rattle.book.specs.Agreement.{Fares, bears, stands, Agrees}
 use Rattle.book.proofs.Spots.{one, sum_same, sum_none, sum_swap, found_by}
 
@@ -15,28 +15,23 @@ neither : (b : Bool) → ◌≡◌ {A = ℕ} 0 (cond b 0 0)
 neither true = refl
 neither false = refl
 
+-- a spot of a serial is counted where the fate of that serial passes the test
+bears_by : (es : List Event) (s t : ℕ) (test : Fate → Bool) (f : Fate) → fate t es ≡ f → cond (test f) (one (eqb t s)) 0 ≡ cond (test (fate s es)) (one (eqb t s)) 0
+bears_by es s t test f e = ⊎_elim
+    (λ (y : eqb t s ≡ true). ap (λ g. cond (test g) (one (eqb t s)) 0) (sym e ∙ ap (λ n. fate n es) (eqb-true t s y)))
+    (λ (n : eqb t s ≡ false). rw n (sym (neither (test f)) ∙ neither (test (fate s es))))
+    (cases_Bool (eqb t s))
+
 -- the spots that are open under a serial are those that bear it, if it is open; so too if it is held
 open_bears : (es : List Event) (s : ℕ) (p : Spot) → Fares es p → one (open_as s p) ≡ cond (is_open (fate s es)) (one (bears s p)) 0
 open_bears es s Free f = neither (is_open (fate s es))
-open_bears es s (Open t x) f = ⊎_elim
-    (λ (y : eqb t s ≡ true). let q = eqb-true t s y in let k : is_open (fate s es) ≡ true = ap is_open (rw q at f) in rw (y, k))
-    (λ (n : eqb t s ≡ false). rw n (neither (is_open (fate s es))))
-    (cases_Bool (eqb t s))
-open_bears es s (Held t x r l u) f = ⊎_elim
-    (λ (y : eqb t s ≡ true). let q = eqb-true t s y in let k : is_open (fate s es) ≡ false = ap is_open (rw q at f) in rw (y, k))
-    (λ (n : eqb t s ≡ false). rw n (neither (is_open (fate s es))))
-    (cases_Bool (eqb t s))
+open_bears es s (Open t x) f = bears_by es s t is_open (open_at x) f
+open_bears es s (Held t x r l u) f = bears_by es s t is_open (held_at x r l u) f
 
 held_bears : (es : List Event) (s : ℕ) (p : Spot) → Fares es p → one (held_as s p) ≡ cond (is_held (fate s es)) (one (bears s p)) 0
 held_bears es s Free f = neither (is_held (fate s es))
-held_bears es s (Open t x) f = ⊎_elim
-    (λ (y : eqb t s ≡ true). let q = eqb-true t s y in let k : is_held (fate s es) ≡ false = ap is_held (rw q at f) in rw (y, k))
-    (λ (n : eqb t s ≡ false). rw n (neither (is_held (fate s es))))
-    (cases_Bool (eqb t s))
-held_bears es s (Held t x r l u) f = ⊎_elim
-    (λ (y : eqb t s ≡ true). let q = eqb-true t s y in let k : is_held (fate s es) ≡ true = ap is_held (rw q at f) in rw (y, k))
-    (λ (n : eqb t s ≡ false). rw n (neither (is_held (fate s es))))
-    (cases_Bool (eqb t s))
+held_bears es s (Open t x) f = bears_by es s t is_held (open_at x) f
+held_bears es s (Held t x r l u) f = bears_by es s t is_held (held_at x r l u) f
 
 -- a count that goes by a test of the fate
 by_fate : (ps : List Spot) (f g : Spot → ℕ) (b c : Bool) → All (λ p. f p ≡ cond b (g p) 0) ps → sum_by g ps ≡ one c → (b ≡ true → c ≡ true) → sum_by f ps ≡ one b
@@ -47,13 +42,9 @@ open_stands : (f : Fate) → is_open f ≡ true → stands f ≡ true
 open_stands f e = rw e
 
 held_stands : (f : Fate) → is_held f ≡ true → stands f ≡ true
-held_stands never e = e
 held_stands (open_at x) e = refl
 held_stands (held_at x r l u) e = refl
-held_stands spoiled e = e
-held_stands aborted e = e
-held_stands withdrawn e = e
-held_stands swept e = e
+held_stands f e = e
 
 -- the sum over serials of one that is among them
 sum_at : (t n : ℕ) → n < t → sum_by (λ s. one (eqb t s)) (up_to n) ≡ 0
@@ -113,25 +104,22 @@ module _ (es : List Event) (b : Book) (g : Agrees es b) where
   held_sum (Held t x r l u) f = let k = was_given t (λ e. let z : ◌≡◌ {A = ℕ} 0 1 = cc in omega arith) in sum_in t (given es) k.0 k.1
 
   -- as many spots are open, and as many are held, as there are such serials
-  pub open_same : count_by book.is_open b.spots ≡ open_count es
-  open_same =
-      sym (sum_same (λ p. sum_by (λ s. one (open_as s p)) (serials es)) (λ p. one (book.is_open p)) b.spots (All-weaker (Fares es) _ open_sum b.spots g.each))
-      ∙ sym (sum_swap (λ s p. one (open_as s p)) (serials es) b.spots)
-      ∙ sum_same (λ s. count_by (open_as s) b.spots) (λ s. one (is_open (fate s es))) (serials es) (every (serials es))
+  same_count : (under : ℕ → Spot → Bool) (is : Spot → Bool) (fared : Fate → Bool) → ((p : Spot) → Fares es p → sum_by (λ s. one (under s p)) (serials es) ≡ one (is p))
+      → ((s : ℕ) → count_by (under s) b.spots ≡ one (fared (fate s es))) → count_by is b.spots ≡ count_by (λ s. fared (fate s es)) (serials es)
+  same_count under is fared sum once =
+      sym (sum_same (λ p. sum_by (λ s. one (under s p)) (serials es)) (λ p. one (is p)) b.spots (All-weaker (Fares es) _ sum b.spots g.each))
+      ∙ sym (sum_swap (λ s p. one (under s p)) (serials es) b.spots)
+      ∙ sum_same (λ s. count_by (under s) b.spots) (λ s. one (fared (fate s es))) (serials es) (every (serials es))
     where
-      every : (ss : List ℕ) → All (λ s. count_by (open_as s) b.spots ≡ one (is_open (fate s es))) ss
+      every : (ss : List ℕ) → All (λ s. count_by (under s) b.spots ≡ one (fared (fate s es))) ss
       every [] = tt
-      every (s ∷ ss) = (open_once s, every ss)
+      every (s ∷ ss) = (once s, every ss)
+
+  pub open_same : count_by book.is_open b.spots ≡ open_count es
+  open_same = same_count open_as book.is_open is_open open_sum open_once
 
   pub held_same : count_by book.is_held b.spots ≡ held_count es
-  held_same =
-      sym (sum_same (λ p. sum_by (λ s. one (held_as s p)) (serials es)) (λ p. one (book.is_held p)) b.spots (All-weaker (Fares es) _ held_sum b.spots g.each))
-      ∙ sym (sum_swap (λ s p. one (held_as s p)) (serials es) b.spots)
-      ∙ sum_same (λ s. count_by (held_as s) b.spots) (λ s. one (is_held (fate s es))) (serials es) (every (serials es))
-    where
-      every : (ss : List ℕ) → All (λ s. count_by (held_as s) b.spots ≡ one (is_held (fate s es))) ss
-      every [] = tt
-      every (s ∷ ss) = (held_once s, every ss)
+  held_same = same_count held_as book.is_held is_held held_sum held_once
 
   -- every spot is free, open or held
   all_spots : (ps : List Spot) → count_by is_free ps + count_by book.is_open ps + count_by book.is_held ps ≡ length ps

@@ -1,5 +1,5 @@
 -- What every book keeps that calls lead to.
-use Rattle.std.proofs.Common.{◌≡◌, ℕ, zero, suc, ◌+◌, ◌<◌, Bool, true, false, cond, eqb, ltb, List, [], ◌∷◌, length, get_or, set, replicate, ℤ, ◌≤ℤ◌, count_by, sym, refl, ◌∙◌, subst, arith}
+use Rattle.std.proofs.Common.{◌≡◌, ℕ, zero, suc, ◌+◌, ◌<◌, Bool, true, false, cond, eqb, ltb, List, [], ◌∷◌, length, get_or, set, replicate, ℤ, ◌≤ℤ◌, ◌≤◌, sym, refl, ◌∙◌, subst, arith}
 use Rattle.std.specs.List.{AllByRecursion as All}
 use Rattle.std.proofs.lemmas.List.{length-set}
 use Rattle.std.proofs.ByRecursion.{All-get_or, All-set}
@@ -8,6 +8,7 @@ use Rattle.std.proofs.lemmas.Bool.{ltb-true}
 use Rattle.stage.specs.Meaning.{Meaning, Sound}
 use Rattle.exact.specs.Limits.{least_end, greatest_end}
 use Rattle.book.specs.declared.call.Call.{Call}
+use Rattle.book.specs.declared.tallies.Counts.{Counts}
 use Rattle.book.specs.declared.call.Call.TheVariants as call
 use Rattle.book.specs.Limits.{place_count, last_serial, within}
 use Rattle.book.specs.Rows.{Row}
@@ -49,25 +50,30 @@ module _ (m : Meaning) (b : Book) (k : Kept m b) where
   inside : (test : Spot → Bool) → found test b ≡ true → first test b < length b.spots
   inside test e = let l = k.long in let h = ltb-true (first test b) place_count e in omega arith
 
-  change : (i : ℕ) (q : Spot) → i < length b.spots → count_by is_open (set b.spots i q) + one (is_open (get_or b.spots i Free)) ≡ count_by is_open b.spots + one (is_open q)
-  change i q lt = sum_by-set (λ p. one (is_open p)) b.spots i q Free lt
+  -- the first spot that passes a test becomes another, and the tallies follow what is open
+  kept_put : (test : Spot → Bool) (q : Spot) (was : ℕ) → found test b ≡ true → ((p : Spot) → test p ≡ true → one (is_open p) ≡ was) → Taken m q
+      → (last : ℕ) (c : Counts) → last ≤ last_serial → c.opened ≤ last
+      → c.filed + c.spoiled + c.aborted + one (is_open q) + b.counts.opened ≡ b.counts.filed + b.counts.spoiled + b.counts.aborted + was + c.opened
+      → Kept m (record { spots = set b.spots (first test b) q; last = last; counts = c })
+  kept_put test q was f open_was taken last c few given tally =
+      let i = first test b in
+      let lt = inside test f in
+      let o = open_was (get_or b.spots i Free) (first_passes test b.spots Free lt) in
+      let change = sum_by-set (λ p. one (is_open p)) b.spots i q Free lt in
+      let over = k.ended in
+      record {
+        long = length-set b.spots i q ∙ k.long;
+        few = few;
+        given = given;
+        ended = omega arith;
+        taken = All-set (Taken m) b.spots i q taken k.taken;
+      }
 
   kept_open : (x : ℤ) (w f l : Bool) → within x ≡ w → found is_free b ≡ f → ltb b.last last_serial ≡ l
       → Kept m (cond w (cond f (cond l (one_opened (put b (first is_free b) (Open (b.last + 1) x))) b) b) b)
   kept_open x true true true w f l =
-      let i = first is_free b in
-      let lt = inside is_free f in
-      let c = change i (Open (b.last + 1) x) lt in
-      let p = free_shut (get_or b.spots i Free) (first_passes is_free b.spots Free lt) in
-      let some = ltb-true b.last last_serial l in
-      let few = k.few in let gave = k.given in let over = k.ended in
-      record {
-        long = length-set b.spots i _ ∙ k.long;
-        few = omega arith;
-        given = omega arith;
-        ended = omega arith;
-        taken = All-set (Taken m) b.spots i (Open (b.last + 1) x) w k.taken;
-      }
+      let some = ltb-true b.last last_serial l in let gave = k.given in
+      kept_put is_free (Open (b.last + 1) x) 0 f free_shut w (b.last + 1) _ (omega arith) (omega arith) (omega arith)
   kept_open x true true false w f l = k
   kept_open x true false l w f e = k
   kept_open x false f l w e e' = k
@@ -75,67 +81,20 @@ module _ (m : Meaning) (b : Book) (k : Kept m b) where
   kept_file : (s : ℕ) (r : ℤ) (x y z : Bool) → found (open_as s) b ≡ y → m.taken r ≡ z
       → Kept m (cond x (cond y (cond z (one_filed (put b (first (open_as s) b) (hold r (m.lower r) (m.upper r) (get_or b.spots (first (open_as s) b) Free)))) (one_spoiled (put b (first (open_as s) b) Free))) b) b)
   kept_file s r true true true f t =
-      let i = first (open_as s) b in
-      let lt = inside (open_as s) f in
-      let p = get_or b.spots i Free in
-      let c = change i (hold r (m.lower r) (m.upper r) p) lt in
-      let o = open_is s p (first_passes (open_as s) b.spots Free lt) in
+      let p = get_or b.spots (first (open_as s) b) Free in
       let h = hold_shut r (m.lower r) (m.upper r) p in
-      let over = k.ended in
-      record {
-        long = length-set b.spots i _ ∙ k.long;
-        few = k.few;
-        given = k.given;
-        ended = omega arith;
-        taken = All-set (Taken m) b.spots i _ (hold_taken m r p t (All-get_or (Taken m) b.spots i Free lt k.taken)) k.taken;
-      }
-  kept_file s r true true false f t =
-      let i = first (open_as s) b in
-      let lt = inside (open_as s) f in
-      let c = change i Free lt in
-      let o = open_is s (get_or b.spots i Free) (first_passes (open_as s) b.spots Free lt) in
-      let over = k.ended in
-      record {
-        long = length-set b.spots i _ ∙ k.long;
-        few = k.few;
-        given = k.given;
-        ended = omega arith;
-        taken = All-set (Taken m) b.spots i Free tt k.taken;
-      }
+      kept_put (open_as s) (hold r (m.lower r) (m.upper r) p) 1 f (open_is s) (hold_taken m r p t (All-get_or (Taken m) b.spots _ Free (inside (open_as s) f) k.taken)) b.last _ k.few k.given (omega arith)
+  kept_file s r true true false f t = kept_put (open_as s) Free 1 f (open_is s) tt b.last _ k.few k.given (omega arith)
   kept_file s r true false z f t = k
   kept_file s r false y z f t = k
 
   kept_abort : (s : ℕ) (x y : Bool) → found (open_as s) b ≡ y → Kept m (cond x (cond y (one_aborted (put b (first (open_as s) b) Free)) b) b)
-  kept_abort s true true f =
-      let i = first (open_as s) b in
-      let lt = inside (open_as s) f in
-      let c = change i Free lt in
-      let o = open_is s (get_or b.spots i Free) (first_passes (open_as s) b.spots Free lt) in
-      let over = k.ended in
-      record {
-        long = length-set b.spots i _ ∙ k.long;
-        few = k.few;
-        given = k.given;
-        ended = omega arith;
-        taken = All-set (Taken m) b.spots i Free tt k.taken;
-      }
+  kept_abort s true true f = kept_put (open_as s) Free 1 f (open_is s) tt b.last _ k.few k.given (omega arith)
   kept_abort s true false f = k
   kept_abort s false y f = k
 
   kept_withdraw : (s : ℕ) (y : Bool) → found (held_as s) b ≡ y → Kept m (cond y (put b (first (held_as s) b) Free) b)
-  kept_withdraw s true f =
-      let i = first (held_as s) b in
-      let lt = inside (held_as s) f in
-      let c = change i Free lt in
-      let o = held_shut s (get_or b.spots i Free) (first_passes (held_as s) b.spots Free lt) in
-      let over = k.ended in
-      record {
-        long = length-set b.spots i _ ∙ k.long;
-        few = k.few;
-        given = k.given;
-        ended = omega arith;
-        taken = All-set (Taken m) b.spots i Free tt k.taken;
-      }
+  kept_withdraw s true f = kept_put (held_as s) Free 0 f (held_shut s) tt b.last _ k.few k.given (omega arith)
   kept_withdraw s false f = k
 
   pub kept_next : (n : ℕ) (c : Call) → Kept m (next m n b c)

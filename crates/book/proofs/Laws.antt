@@ -6,11 +6,10 @@ use Rattle.stage.specs.Meaning.{Meaning}
 use Rattle.stage.specs.Meaning as stage
 use Rattle.book.specs.declared.call.Call.{Call}
 use Rattle.book.specs.declared.call.Call.TheVariants as call
-use Rattle.book.specs.declared.answer.Answer.{Answer}
 use Rattle.book.specs.declared.answer.Answer.TheVariants as answer
 use Rattle.book.specs.Limits.{place_count, last_serial, within}
-use Rattle.book.specs.Rows.{Questions, Answers, Unordered, DistinctSerials}
-use Rattle.book.specs.Book.{Book, blank, next, told, tallies, opening, filing, ending, rows, is_free, open_as, held_as, found}
+use Rattle.book.specs.Rows.{Questions, Answers, Unordered, DistinctSerials, Outcome, answered}
+use Rattle.book.specs.Book.{Book, blank, next, told, tallies, rows, is_free, open_as, held_as, found}
 use Rattle.book.specs.Run.{after, Replies}
 use Rattle.book.specs.Law.{History, Event, event, events, open_count, held_count, held, due, Lawful, upon, Balanced}
 use Rattle.book.specs.Law as law
@@ -22,60 +21,60 @@ use Rattle.book.proofs.Sheets.{same_rows, distinct_rows}
 
 -- ---- each call is told what it is due
 
-open_due : (n t : ℕ) (f l : Bool) → opening n (cond f (cond l (Ok t) (Err refusal.NoSerialLeft)) (Err refusal.NoFreePlace)) ≡ cond f (cond l (answer.Opened n t) (answer.Refused refusal.NoSerialLeft)) (answer.Refused refusal.NoFreePlace)
+open_due : (n t : ℕ) (f l : Bool) → answered (answer.Opened n) (cond f (cond l (Ok t) (Err refusal.NoSerialLeft)) (Err refusal.NoFreePlace)) ≡ cond f (cond l (Ok (answer.Opened n t)) (Err refusal.NoSerialLeft)) (Err refusal.NoFreePlace)
 open_due n t true true = refl
 open_due n t true false = refl
 open_due n t false l = refl
 
 file_due : (m : Meaning) (s : ℕ) (r : ℤ) (x y z : Bool)
-    → cond x (filing s (cond y (cond z (Ok (m.lower r, m.upper r)) (Err (refusal.ReadingNotTaken (stage.told (m.place r)) (m.value r)))) (Err refusal.PointNotOpen))) (answer.Refused refusal.PointNotOpen)
-    ≡ cond (x && y) (cond z (answer.Filed s (m.lower r) (m.upper r)) (answer.Refused (refusal.ReadingNotTaken (stage.told (m.place r)) (m.value r)))) (answer.Refused refusal.PointNotOpen)
+    → cond x (answered {A = ℤ × ℤ} (λ ends. answer.Filed s ends.0 ends.1) (cond y (cond z (Ok (m.lower r, m.upper r)) (Err (refusal.ReadingNotTaken (stage.told (m.place r)) (m.value r)))) (Err refusal.PointNotOpen))) (Err refusal.PointNotOpen)
+    ≡ cond (x && y) (cond z (Ok (answer.Filed s (m.lower r) (m.upper r))) (Err (refusal.ReadingNotTaken (stage.told (m.place r)) (m.value r)))) (Err refusal.PointNotOpen)
 file_due m s r true true true = refl
 file_due m s r true true false = refl
 file_due m s r true false z = refl
 file_due m s r false y z = refl
 
-abort_due : (s : ℕ) (x y : Bool) → cond x (ending (answer.Aborted s) (cond y (Ok tt) (Err refusal.PointNotOpen))) (answer.Refused refusal.PointNotOpen) ≡ cond (x && y) (answer.Aborted s) (answer.Refused refusal.PointNotOpen)
+abort_due : (s : ℕ) (x y : Bool) → cond x (answered {A = Unit {0}} (λ done. answer.Aborted s) (cond y (Ok tt) (Err refusal.PointNotOpen))) (Err refusal.PointNotOpen) ≡ cond (x && y) (Ok (answer.Aborted s)) (Err refusal.PointNotOpen)
 abort_due s true true = refl
 abort_due s true false = refl
 abort_due s false y = refl
 
-withdraw_due : (s : ℕ) (y : Bool) → ending (answer.Withdrawn s) (cond y (Ok tt) (Err refusal.SerialNotHeld)) ≡ cond y (answer.Withdrawn s) (answer.Refused refusal.SerialNotHeld)
+withdraw_due : (s : ℕ) (y : Bool) → answered {A = Unit {0}} (λ done. answer.Withdrawn s) (cond y (Ok tt) (Err refusal.SerialNotHeld)) ≡ cond y (Ok (answer.Withdrawn s)) (Err refusal.SerialNotHeld)
 withdraw_due s true = refl
 withdraw_due s false = refl
 
 module _ (m : Meaning) (n : ℕ) (es : List Event) (b : Book) (g : Agrees es b) where
   pub told_due : (c : Call) → told m n b c ≡ due m n es c
   told_due (call.Open x) =
-      ap (λ a. Some (cond (within x) a (answer.Refused refusal.ArgumentOutOfLimits)))
+      ap (λ a. Some (cond (within x) a (Err refusal.ArgumentOutOfLimits)))
       (open_due n (b.last + 1) (found is_free b) (ltb b.last last_serial)
-      ∙ ap (λ f. cond f (cond (ltb b.last last_serial) (answer.Opened n (b.last + 1)) (answer.Refused refusal.NoSerialLeft)) (answer.Refused refusal.NoFreePlace)) (found_free es b g)
-      ∙ ap (λ l. cond (ltb (open_count es + held_count es) place_count) (cond (ltb l last_serial) (answer.Opened n (l + 1)) (answer.Refused refusal.NoSerialLeft)) (answer.Refused refusal.NoFreePlace)) g.last)
+      ∙ ap (λ f. cond f (cond (ltb b.last last_serial) (Ok (answer.Opened n (b.last + 1))) (Err refusal.NoSerialLeft)) (Err refusal.NoFreePlace)) (found_free es b g)
+      ∙ ap (λ l. cond (ltb (open_count es + held_count es) place_count) (cond (ltb l last_serial) (Ok (answer.Opened n (l + 1))) (Err refusal.NoSerialLeft)) (Err refusal.NoFreePlace)) g.last)
   told_due (call.File k s r) =
       ap Some (file_due m s r (eqb k n) (found (open_as s) b) (m.taken r)
-      ∙ ap (λ y. cond (eqb k n && y) (cond (m.taken r) (answer.Filed s (m.lower r) (m.upper r)) (answer.Refused (refusal.ReadingNotTaken (stage.told (m.place r)) (m.value r)))) (answer.Refused refusal.PointNotOpen)) (found_open es b g s))
+      ∙ ap (λ y. cond (eqb k n && y) (cond (m.taken r) (Ok (answer.Filed s (m.lower r) (m.upper r))) (Err (refusal.ReadingNotTaken (stage.told (m.place r)) (m.value r)))) (Err refusal.PointNotOpen)) (found_open es b g s))
   told_due (call.Abort k s) =
-      ap Some (abort_due s (eqb k n) (found (open_as s) b) ∙ ap (λ y. cond (eqb k n && y) (answer.Aborted s) (answer.Refused refusal.PointNotOpen)) (found_open es b g s))
+      ap Some (abort_due s (eqb k n) (found (open_as s) b) ∙ ap (λ y. cond (eqb k n && y) (Ok (answer.Aborted s)) (Err refusal.PointNotOpen)) (found_open es b g s))
   told_due (call.Withdraw s) =
-      ap Some (withdraw_due s (found (held_as s) b) ∙ ap (λ y. cond y (answer.Withdrawn s) (answer.Refused refusal.SerialNotHeld)) (found_held es b g s))
+      ap Some (withdraw_due s (found (held_as s) b) ∙ ap (λ y. cond y (Ok (answer.Withdrawn s)) (Err refusal.SerialNotHeld)) (found_held es b g s))
   told_due call.Clear = refl
   told_due call.Verdict = refl
   told_due call.Slope = refl
   told_due (call.Value x) = refl
   told_due call.Tallies =
-      let o = g.opened in let f = g.filed in let p = g.spoiled in let a = g.aborted in let w = open_same es b g in let h = held_same es b g in
+      let e = g.counts in let w = open_same es b g in let h = held_same es b g in
       let same : tallies b ≡ law.tallies es = cc in
-      ap (λ t. Some (answer.Counted t)) same
+      ap (λ t. Some (Ok (answer.Counted t))) same
 
 -- ---- whole runs
 
-weaker : (o : Option Answer) (r : Answer) (P Q : Type 0) → (P → Q) → Answers o P r → Answers o Q r
+weaker : (o : Option Outcome) (r : Outcome) (P Q : Type 0) → (P → Q) → Answers o P r → Answers o Q r
 weaker (Some a) r P Q f e = e
 weaker None r P Q f e = f e
 
 module _ (Q : Questions) (unordered : Unordered Q) (m : Meaning) (n : ℕ) where
   -- whatever history led to a book, it goes on lawfully with a call that has its answer
-  pub law_step : (h : History) (b : Book) → Agrees (events h) b → Lawful Q m n h → (c : Call) (r : Answer) → Answers (told m n b c) (Q (rows b) c r) r
+  pub law_step : (h : History) (b : Book) → Agrees (events h) b → Lawful Q m n h → (c : Call) (r : Outcome) → Answers (told m n b c) (Q (rows b) c r) r
       → Lawful Q m n ((c, r) ∷ h) × Agrees (events ((c, r) ∷ h)) (next m n b c)
   unfolding events Lawful
   law_step h b g l c r e = (
@@ -87,7 +86,7 @@ module _ (Q : Questions) (unordered : Unordered Q) (m : Meaning) (n : ℕ) where
     agrees_next m n (events h) b g c r (Q (rows b) c r) e,
   )
 
-  pub run_law : (h : History) (b : Book) → Agrees (events h) b → Lawful Q m n h → (cs : List Call) (rs : List Answer) → Replies Q m n b cs rs
+  pub run_law : (h : History) (b : Book) → Agrees (events h) b → Lawful Q m n h → (cs : List Call) (rs : List Outcome) → Replies Q m n b cs rs
       → Lawful Q m n (upon h cs rs) × Agrees (events (upon h cs rs)) (after m n b cs)
   unfolding Replies upon after
   run_law h b g l [] [] e = (l, g)
@@ -96,14 +95,14 @@ module _ (Q : Questions) (unordered : Unordered Q) (m : Meaning) (n : ℕ) where
   run_law h b g l (c ∷ cs) (r ∷ rs) e = let k = law_step h b g l c r e.0 in run_law ((c, r) ∷ h) (next m n b c) k.1 k.0 cs rs e.1
 
   -- a run from a new book is lawful, and the book is that of its history
-  pub lawful_run : (cs : List Call) (rs : List Answer) → Replies Q m n blank cs rs → Lawful Q m n (upon [] cs rs) × Agrees (events (upon [] cs rs)) (after m n blank cs)
+  pub lawful_run : (cs : List Call) (rs : List Outcome) → Replies Q m n blank cs rs → Lawful Q m n (upon [] cs rs) × Agrees (events (upon [] cs rs)) (after m n blank cs)
   unfolding events Lawful
   lawful_run cs rs e = run_law [] blank agrees_blank tt cs rs e
 
 -- every point is filed, spoiled, aborted or open
 pub balanced : (m : Meaning) (es : List Event) (b : Book) → Agrees es b → Kept m b → Balanced es
 balanced m es b g k =
-    let o = g.opened in let f = g.filed in let p = g.spoiled in let a = g.aborted in let w = open_same es b g in let over = k.ended in
+    let w = open_same es b g in let over = rw g.counts at k.ended in
     omega arith
 
 -- every lawful history has its book
@@ -122,9 +121,9 @@ balanced_law Q m n h l = let k = lawful_book Q m n h l in balanced m (events h) 
 
 -- ---- every book that calls lead to
 
-some_answer : (o : Option Answer) → (r : Answer) × Answers o (Unit {0}) r
+some_answer : (o : Option Outcome) → (r : Outcome) × Answers o (Unit {0}) r
 some_answer (Some a) = (a, refl)
-some_answer None = (answer.Line, tt)
+some_answer None = (Ok answer.Line, tt)
 
 -- there is a history that it agrees with
 history_of : (m : Meaning) (n : ℕ) (es : List Event) (b : Book) → Agrees es b → (cs : List Call) → (es' : List Event) × Agrees es' (after m n b cs)
@@ -151,7 +150,7 @@ module _ (m : Meaning) (n : ℕ) where
   pub after_more : (b : Book) (cs : List Call) (i : ℕ) (d : Call) → i < length cs → after m n b (take (i + 1) cs) ≡ next m n (after m n b (take i cs)) (get_or cs i d)
   after_more b cs i d lt = ap (after m n b) (take_more cs i d lt) ∙ after_push b (take i cs) (get_or cs i d)
 
-  pub replies_push : (Q : Questions) (b : Book) (cs : List Call) (rs : List Answer) (c : Call) (r : Answer) → Replies Q m n b cs rs
+  pub replies_push : (Q : Questions) (b : Book) (cs : List Call) (rs : List Outcome) (c : Call) (r : Outcome) → Replies Q m n b cs rs
       → Answers (told m n (after m n b cs) c) (Q (rows (after m n b cs)) c r) r → Replies Q m n b (cs ++ c ∷ []) (rs ++ r ∷ [])
   unfolding after Replies
   replies_push Q b [] [] c r e a = (a, tt)
@@ -163,7 +162,7 @@ module _ (m : Meaning) (n : ℕ) where
   unfolding Replies
   replies_none Q b = tt
 
-  pub replies_more : (Q : Questions) (b : Book) (cs : List Call) (rs : List Answer) (i : ℕ) (d : Call) (r : Answer) → i < length cs → i < length rs
+  pub replies_more : (Q : Questions) (b : Book) (cs : List Call) (rs : List Outcome) (i : ℕ) (d : Call) (r : Outcome) → i < length cs → i < length rs
       → Replies Q m n b (take i cs) (take i rs) → Answers (told m n (after m n b (take i cs)) (get_or cs i d)) (Q (rows (after m n b (take i cs))) (get_or cs i d) r) r
       → Replies Q m n b (take (i + 1) cs) (take (i + 1) (set rs i r))
   replies_more Q b cs rs i d r lt lt' e a =

@@ -8,13 +8,13 @@ use Rattle.std.proofs.lemmas.Bool.{cases_Bool, eqb-true, eqb-false, eq-eqb, ne_e
 use Rattle.refusal.specs.declared.refusal.Refusal.TheVariants as refusal
 use Rattle.stage.specs.Meaning.{Meaning}
 use Rattle.stage.specs.Meaning as stage
+use Rattle.book.specs.declared.tallies.Counts.{Counts}
 use Rattle.book.specs.declared.call.Call.{Call}
 use Rattle.book.specs.declared.call.Call.TheVariants as call
-use Rattle.book.specs.declared.answer.Answer.{Answer}
 use Rattle.book.specs.declared.answer.Answer.TheVariants as answer
 use Rattle.book.specs.Limits.{place_count, last_serial, within}
-use Rattle.book.specs.Rows.{Answers}
-use Rattle.book.specs.Book.{Book, Spot, Free, Open, Held, is_free, open_as, held_as, first, found, put, hold, one_opened, one_filed, one_spoiled, one_aborted, blank, next, told, opening, filing, ending, cleared}
+use Rattle.book.specs.Rows.{Answers, Outcome, answered}
+use Rattle.book.specs.Book.{Book, Spot, Free, Open, Held, is_free, open_as, held_as, first, found, put, hold, one_opened, one_filed, one_spoiled, one_aborted, blank, next, told, cleared}
 use Rattle.book.specs.Law.{Event, opens, files, spoils, aborts, withdraws, clears, nothing, event, Fate, never, open_at, held_at, fate, given, since}
 use Rattle.book.specs.Law as law
 use Rattle.book.specs.Agreement.{Fares, bears, stands, Agrees}
@@ -65,12 +65,7 @@ all_free es (suc n) = (tt, all_free es n)
 
 swept_none : (f : Fate) → stands (law.sweep f) ≡ false
 swept_none never = refl
-swept_none (open_at x) = refl
-swept_none (held_at x r l u) = refl
-swept_none law.spoiled = refl
-swept_none law.aborted = refl
-swept_none law.withdrawn = refl
-swept_none law.swept = refl
+swept_none f = refl
 
 -- at index i the spot becomes q, by an event for the serial t alone
 record Move (es : List Event) (b : Book) (e : Event) (t i : ℕ) (q : Spot) : Type 0 where
@@ -113,15 +108,11 @@ module _ (es : List Event) (b : Book) (g : Agrees es b) where
         (cases_Bool (eqb s t))
 
     moved : (b' : Book) → given es ≤ given (e ∷ es) → b'.spots ≡ set b.spots i q → b'.last ≡ given (e ∷ es)
-        → b'.opened ≡ count_by law.opening (since (e ∷ es)) → b'.filed ≡ count_by law.filing (since (e ∷ es))
-        → b'.spoiled ≡ count_by law.spoiling (since (e ∷ es)) → b'.aborted ≡ count_by law.aborting (since (e ∷ es)) → Agrees (e ∷ es) b'
-    moved b' more spots last o f p a = record {
+        → b'.counts ≡ law.counts (since (e ∷ es)) → Agrees (e ∷ es) b'
+    moved b' more spots last counts = record {
       long = ap length spots ∙ length-set b.spots i q ∙ g.long;
       last = last;
-      opened = o;
-      filed = f;
-      spoiled = p;
-      aborted = a;
+      counts = counts;
       first = (let low = move.low in move.others 0 (ne_eqb 0 t (λ z. omega arith)) ∙ g.first);
       fresh = λ s past. (let high = move.high in move.others s (ne_eqb s t (λ z. omega arith)) ∙ g.fresh s (omega arith));
       each = subst (All (Fares (e ∷ es))) (sym spots) each_moved;
@@ -134,10 +125,7 @@ module _ (es : List Event) (b : Book) (g : Agrees es b) where
   still = record {
     long = g.long;
     last = g.last;
-    opened = g.opened;
-    filed = g.filed;
-    spoiled = g.spoiled;
-    aborted = g.aborted;
+    counts = g.counts;
     first = g.first;
     fresh = g.fresh;
     once = g.once;
@@ -155,10 +143,7 @@ module _ (es : List Event) (b : Book) (g : Agrees es b) where
   swept = record {
     long = refl;
     last = g.last;
-    opened = refl;
-    filed = refl;
-    spoiled = refl;
-    aborted = refl;
+    counts = refl;
     first = ap law.sweep g.first;
     fresh = λ s past. ap law.sweep (g.fresh s past);
     each = all_free (clears ∷ es) place_count;
@@ -177,33 +162,29 @@ record Bearing (es : List Event) (b : Book) (t i : ℕ) : Type 0 where
   pub high : t ≤ given es
 
 module _ (es : List Event) (b : Book) (g : Agrees es b) where
+  bearing : (t : ℕ) (test : Spot → Bool) → found test b ≡ true → (p : Spot) → get_or b.spots (first test b) Free ≡ p → ((s : ℕ) → bears s p ≡ eqb t s)
+      → (f : Fate) → fate t es ≡ f → (f ≡ never → ⊥) → stands f ≡ true → Bearing es b t (first test b)
+  bearing t test e p is own f fares some up =
+      let r = was_given es b g t (λ z. some (sym fares ∙ z)) in
+      record {
+        inside = found_inside es b g test e;
+        was = λ s d. ap (bears s) is ∙ own s ∙ eqb_swap s t d;
+        was_own = ap (bears t) is ∙ own t ∙ eq-eqb t t refl ∙ sym (ap stands fares ∙ up);
+        low = r.0;
+        high = r.1;
+      }
+
   bearing_open : (t : ℕ) → found (open_as t) b ≡ true → Bearing es b t (first (open_as t) b)
   bearing_open t e =
       let lt = found_inside es b g (open_as t) e in
       let k = open_spot es t (get_or b.spots (first (open_as t) b) Free) (first_passes (open_as t) b.spots Free lt) (All-get_or (Fares es) b.spots (first (open_as t) b) Free lt g.each) in
-      let f = k.2 in
-      let r = was_given es b g t (λ e. let z : ◌≡◌ {A = ℕ} 0 1 = cc in omega arith) in
-      record {
-        inside = lt;
-        was = λ s d. ap (bears s) k.1 ∙ eqb_swap s t d;
-        was_own = ap (bears t) k.1 ∙ eq-eqb t t refl ∙ sym (ap stands f);
-        low = r.0;
-        high = r.1;
-      }
+      bearing t (open_as t) e _ k.1 (λ s. refl) _ k.2 (λ z. let n : ◌≡◌ {A = ℕ} 0 1 = cc in omega arith) refl
 
   bearing_held : (t : ℕ) → found (held_as t) b ≡ true → Bearing es b t (first (held_as t) b)
   bearing_held t e =
       let lt = found_inside es b g (held_as t) e in
       let k = held_spot es t (get_or b.spots (first (held_as t) b) Free) (first_passes (held_as t) b.spots Free lt) (All-get_or (Fares es) b.spots (first (held_as t) b) Free lt g.each) in
-      let f = k.fares in
-      let r = was_given es b g t (λ e. let z : ◌≡◌ {A = ℕ} 0 1 = cc in omega arith) in
-      record {
-        inside = lt;
-        was = λ s d. ap (bears s) k.spot ∙ eqb_swap s t d;
-        was_own = ap (bears t) k.spot ∙ eq-eqb t t refl ∙ sym (ap stands f);
-        low = r.0;
-        high = r.1;
-      }
+      bearing t (held_as t) e _ k.spot (λ s. refl) _ k.fares (λ z. let n : ◌≡◌ {A = ℕ} 0 1 = cc in omega arith) refl
 
   -- the serial comes to an end, and its spot is freed
   ends : (e : Event) (t i : ℕ) (f : Fate) → Bearing es b t i → stands f ≡ false → given (e ∷ es) ≡ given es → ((s : ℕ) → fate s (e ∷ es) ≡ cond (eqb s t) f (fate s es)) → Move es b e t i Free
@@ -243,7 +224,7 @@ module _ (es : List Event) (b : Book) (g : Agrees es b) where
         high = be.high;
       } in
       moved es b g (files t r l u) t i (Held t x r l u) move _ (omega arith) (ap (λ p. set b.spots i (hold r l u p)) k.1) g.last
-      g.opened (let f = g.filed in omega (arith, sum_by-cons (λ e. one (law.filing e)) (files t r l u) (since es))) g.spoiled g.aborted
+      (ap {A = Counts} (λ c. record c { filed = c.filed + 1 }) g.counts ∙ ap {B = Counts} (λ n. record (law.counts (since es)) { filed = n }) (omega (arith, sum_by-cons (λ e. one (law.filing e)) (files t r l u) (since es))))
 
   -- a reading that is not
   spoils_agrees : (t : ℕ) → found (open_as t) b ≡ true → Agrees (spoils t ∷ es) (one_spoiled (put b (first (open_as t) b) Free))
@@ -251,21 +232,21 @@ module _ (es : List Event) (b : Book) (g : Agrees es b) where
   spoils_agrees t e =
       let i = first (open_as t) b in
       moved es b g (spoils t) t i Free (ends (spoils t) t i law.spoiled (bearing_open t e) refl refl (λ s. refl)) _ (omega arith) refl g.last
-      g.opened g.filed (let f = g.spoiled in omega (arith, sum_by-cons (λ e. one (law.spoiling e)) (spoils t) (since es))) g.aborted
+      (ap {A = Counts} (λ c. record c { spoiled = c.spoiled + 1 }) g.counts ∙ ap {B = Counts} (λ n. record (law.counts (since es)) { spoiled = n }) (omega (arith, sum_by-cons (λ e. one (law.spoiling e)) (spoils t) (since es))))
 
   aborts_agrees : (t : ℕ) → found (open_as t) b ≡ true → Agrees (aborts t ∷ es) (one_aborted (put b (first (open_as t) b) Free))
   unfolding fate since
   aborts_agrees t e =
       let i = first (open_as t) b in
       moved es b g (aborts t) t i Free (ends (aborts t) t i law.aborted (bearing_open t e) refl refl (λ s. refl)) _ (omega arith) refl g.last
-      g.opened g.filed g.spoiled (let f = g.aborted in omega (arith, sum_by-cons (λ e. one (law.aborting e)) (aborts t) (since es)))
+      (ap {A = Counts} (λ c. record c { aborted = c.aborted + 1 }) g.counts ∙ ap {B = Counts} (λ n. record (law.counts (since es)) { aborted = n }) (omega (arith, sum_by-cons (λ e. one (law.aborting e)) (aborts t) (since es))))
 
   withdraws_agrees : (t : ℕ) → found (held_as t) b ≡ true → Agrees (withdraws t ∷ es) (put b (first (held_as t) b) Free)
   unfolding fate since
   withdraws_agrees t e =
       let i = first (held_as t) b in
       moved es b g (withdraws t) t i Free (ends (withdraws t) t i law.withdrawn (bearing_held t e) refl refl (λ s. refl)) _ (omega arith) refl g.last
-      g.opened g.filed g.spoiled g.aborted
+      g.counts
 
   -- a new point
   opens_agrees : (x : ℤ) → found is_free b ≡ true → Agrees (opens (b.last + 1) x ∷ es) (one_opened (put b (first is_free b) (Open (b.last + 1) x)))
@@ -291,11 +272,11 @@ module _ (es : List Event) (b : Book) (g : Agrees es b) where
         high = omega (arith, more);
       } in
       moved es b g (opens t x) t i (Open t x) move _ (omega (arith, more)) refl (omega (arith, more))
-      (let f = g.opened in omega (arith, sum_by-cons (λ e. one (law.opening e)) (opens t x) (since es))) g.filed g.spoiled g.aborted
+      (ap {A = Counts} (λ c. record c { opened = c.opened + 1 }) g.counts ∙ ap {B = Counts} (λ n. record (law.counts (since es)) { opened = n }) (omega (arith, sum_by-cons (λ e. one (law.opening e)) (opens t x) (since es))))
 
 module _ (m : Meaning) (n : ℕ) (es : List Event) (b : Book) (g : Agrees es b) where
   agrees_open : (x : ℤ) (w f l : Bool) → found is_free b ≡ f
-      → Agrees (event (call.Open x) (cond w (opening n (cond f (cond l (Ok (b.last + 1)) (Err refusal.NoSerialLeft)) (Err refusal.NoFreePlace))) (answer.Refused refusal.ArgumentOutOfLimits)) ∷ es)
+      → Agrees (event (call.Open x) (cond w (answered (answer.Opened n) (cond f (cond l (Ok (b.last + 1)) (Err refusal.NoSerialLeft)) (Err refusal.NoFreePlace))) (Err refusal.ArgumentOutOfLimits)) ∷ es)
       (cond w (cond f (cond l (one_opened (put b (first is_free b) (Open (b.last + 1) x))) b) b) b)
   agrees_open x true true true e = opens_agrees es b g x e
   agrees_open x true true false e = still es b g
@@ -303,7 +284,7 @@ module _ (m : Meaning) (n : ℕ) (es : List Event) (b : Book) (g : Agrees es b) 
   agrees_open x false f l e = still es b g
 
   agrees_file : (k s : ℕ) (r : ℤ) (x y z : Bool) → found (open_as s) b ≡ y
-      → Agrees (event (call.File k s r) (cond x (filing s (cond y (cond z (Ok (m.lower r, m.upper r)) (Err (refusal.ReadingNotTaken (stage.told (m.place r)) (m.value r)))) (Err refusal.PointNotOpen))) (answer.Refused refusal.PointNotOpen)) ∷ es)
+      → Agrees (event (call.File k s r) (cond x (answered {A = ℤ × ℤ} (λ ends. answer.Filed s ends.0 ends.1) (cond y (cond z (Ok (m.lower r, m.upper r)) (Err (refusal.ReadingNotTaken (stage.told (m.place r)) (m.value r)))) (Err refusal.PointNotOpen))) (Err refusal.PointNotOpen)) ∷ es)
       (cond x (cond y (cond z (one_filed (put b (first (open_as s) b) (hold r (m.lower r) (m.upper r) (get_or b.spots (first (open_as s) b) Free)))) (one_spoiled (put b (first (open_as s) b) Free))) b) b)
   agrees_file k s r true true true e = holds es b g s r (m.lower r) (m.upper r) e
   agrees_file k s r true true false e = spoils_agrees es b g s e
@@ -311,19 +292,19 @@ module _ (m : Meaning) (n : ℕ) (es : List Event) (b : Book) (g : Agrees es b) 
   agrees_file k s r false y z e = still es b g
 
   agrees_abort : (k s : ℕ) (x y : Bool) → found (open_as s) b ≡ y
-      → Agrees (event (call.Abort k s) (cond x (ending (answer.Aborted s) (cond y (Ok tt) (Err refusal.PointNotOpen))) (answer.Refused refusal.PointNotOpen)) ∷ es)
+      → Agrees (event (call.Abort k s) (cond x (answered {A = Unit {0}} (λ done. answer.Aborted s) (cond y (Ok tt) (Err refusal.PointNotOpen))) (Err refusal.PointNotOpen)) ∷ es)
       (cond x (cond y (one_aborted (put b (first (open_as s) b) Free)) b) b)
   agrees_abort k s true true e = aborts_agrees es b g s e
   agrees_abort k s true false e = still es b g
   agrees_abort k s false y e = still es b g
 
   agrees_withdraw : (s : ℕ) (y : Bool) → found (held_as s) b ≡ y
-      → Agrees (event (call.Withdraw s) (ending (answer.Withdrawn s) (cond y (Ok tt) (Err refusal.SerialNotHeld))) ∷ es) (cond y (put b (first (held_as s) b) Free) b)
+      → Agrees (event (call.Withdraw s) (answered {A = Unit {0}} (λ done. answer.Withdrawn s) (cond y (Ok tt) (Err refusal.SerialNotHeld))) ∷ es) (cond y (put b (first (held_as s) b) Free) b)
   agrees_withdraw s true e = withdraws_agrees es b g s e
   agrees_withdraw s false e = still es b g
 
   -- the book after a call agrees with the history that has the call
-  pub agrees_next : (c : Call) (r : Answer) (question : Type 0) → Answers (told m n b c) question r → Agrees (event c r ∷ es) (next m n b c)
+  pub agrees_next : (c : Call) (r : Outcome) (question : Type 0) → Answers (told m n b c) question r → Agrees (event c r ∷ es) (next m n b c)
   agrees_next (call.Open x) r question e = subst (λ r. Agrees (event (call.Open x) r ∷ es) (next m n b (call.Open x))) (sym e) (agrees_open x (within x) (found is_free b) (ltb b.last last_serial) refl)
   agrees_next (call.File k s x) r question e = subst (λ r. Agrees (event (call.File k s x) r ∷ es) (next m n b (call.File k s x))) (sym e) (agrees_file k s x (eqb k n) (found (open_as s) b) (m.taken x) refl)
   agrees_next (call.Abort k s) r question e = subst (λ r. Agrees (event (call.Abort k s) r ∷ es) (next m n b (call.Abort k s))) (sym e) (agrees_abort k s (eqb k n) (found (open_as s) b) refl)
@@ -339,10 +320,7 @@ unfolding fate since
 agrees_blank = record {
   long = refl;
   last = refl;
-  opened = refl;
-  filed = refl;
-  spoiled = refl;
-  aborted = refl;
+  counts = refl;
   first = refl;
   fresh = λ s past. refl;
   each = all_free [] place_count;

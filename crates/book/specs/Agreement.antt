@@ -6,7 +6,7 @@ use Rattle.book.specs.Limits.{place_count, last_serial, within}
 use Rattle.book.specs.Book.{Book, Spot, Free, Open, Held}
 use Rattle.book.specs.Book as book
 use Rattle.book.specs.Rows.{Row}
-use Rattle.book.specs.Law.{Event, Fate, never, open_at, held_at, is_open, is_held, fate, given, since, opening, filing, spoiling, aborting}
+use Rattle.book.specs.Law.{Event, Fate, never, open_at, held_at, is_open, is_held, fate, given, since, counts}
 
 -- a spot is as its serial fares
 abbrev pub Fares : List Event → Spot → Type 0
@@ -27,10 +27,7 @@ stands f = is_open f || is_held f
 pub record Agrees (es : List Event) (b : Book) : Type 0 where
   pub long : length b.spots ≡ place_count
   pub last : b.last ≡ given es
-  pub opened : b.opened ≡ count_by opening (since es)
-  pub filed : b.filed ≡ count_by filing (since es)
-  pub spoiled : b.spoiled ≡ count_by spoiling (since es)
-  pub aborted : b.aborted ≡ count_by aborting (since es)
+  pub counts : b.counts ≡ counts (since es)
   -- serials are given from 1 on
   pub first : fate 0 es ≡ never
   pub fresh : (s : ℕ) → given es < s → fate s es ≡ never
@@ -48,8 +45,8 @@ Taken m (Held s x r l u) = (within x ≡ true) × (m.taken r ≡ true) × (l ≡
 pub record Kept (m : Meaning) (b : Book) : Type 0 where
   pub long : length b.spots ≡ place_count
   pub few : b.last ≤ last_serial
-  pub given : b.opened ≤ b.last
-  pub ended : b.filed + b.spoiled + b.aborted + count_by book.is_open b.spots ≡ b.opened
+  pub given : b.counts.opened ≤ b.last
+  pub ended : b.counts.filed + b.counts.spoiled + b.counts.aborted + count_by book.is_open b.spots ≡ b.counts.opened
   pub taken : AllByRecursion (Taken m) b.spots
 
 -- what is so of a row in such a book

@@ -4,14 +4,14 @@ use Rattle.std.specs.Prelude.{ℕ, ◌+◌, Bool, true, false, cond, not, List, 
 use Rattle.std.specs.List.{prefix_len}
 use Rattle.refusal.specs.declared.refusal.Refusal.{Refusal}
 use Rattle.refusal.specs.declared.refusal.Refusal.TheVariants as refusal
-use Rattle.stage.specs.Meaning.{Meaning, answer}
+use Rattle.stage.specs.Meaning.{Meaning, told as stage_told}
+use Rattle.book.specs.declared.tallies.Counts.{Counts}
 use Rattle.book.specs.declared.tallies.Tallies.{Tallies}
 use Rattle.book.specs.declared.call.Call.{Call}
 use Rattle.book.specs.declared.call.Call.TheVariants as call
-use Rattle.book.specs.declared.answer.Answer.{Answer}
 use Rattle.book.specs.declared.answer.Answer.TheVariants as answer
 use Rattle.book.specs.Limits.{place_count, last_serial, within}
-use Rattle.book.specs.Rows.{Row}
+use Rattle.book.specs.Rows.{Row, Outcome, answered}
 
 -- a spot is free, open under a serial at an argument, or holds a reading too, with the lower and the upper end of its set
 pub data Spot : Type 0 where
@@ -19,18 +19,15 @@ pub data Spot : Type 0 where
   Open : (serial : ℕ) (argument : ℤ) → Spot
   Held : (serial : ℕ) (argument reading lower upper : ℤ) → Spot
 
--- the spots, the last serial that was given, and four tallies
+-- the spots, the last serial that was given, and the counts
 pub record Book : Type 0 where
   pub spots : List Spot
   pub last : ℕ
-  pub opened : ℕ
-  pub filed : ℕ
-  pub spoiled : ℕ
-  pub aborted : ℕ
+  pub counts : Counts
 
 -- a cleared book: serials go on, all else starts again
 abbrev pub cleared : ℕ → Book
-cleared last = record { spots = replicate place_count Free; last = last; opened = 0; filed = 0; spoiled = 0; aborted = 0 }
+cleared last = record { spots = replicate place_count Free; last = last; counts = record { opened = 0; filed = 0; spoiled = 0; aborted = 0 } }
 
 -- a new book
 abbrev pub blank : Book
@@ -74,19 +71,19 @@ found test b = nat_lt (first test b) place_count
 -- ---- changing it
 
 abbrev pub put : Book → ℕ → Spot → Book
-put b i s = record { spots = slice_set b.spots i s; last = b.last; opened = b.opened; filed = b.filed; spoiled = b.spoiled; aborted = b.aborted }
+put b i s = record b { spots = slice_set b.spots i s }
 
 abbrev pub one_opened : Book → Book
-one_opened b = record { spots = b.spots; last = b.last + 1; opened = b.opened + 1; filed = b.filed; spoiled = b.spoiled; aborted = b.aborted }
+one_opened b = record b { last = b.last + 1; counts = record b.counts { opened = b.counts.opened + 1 } }
 
 abbrev pub one_filed : Book → Book
-one_filed b = record { spots = b.spots; last = b.last; opened = b.opened; filed = b.filed + 1; spoiled = b.spoiled; aborted = b.aborted }
+one_filed b = record b { counts = record b.counts { filed = b.counts.filed + 1 } }
 
 abbrev pub one_spoiled : Book → Book
-one_spoiled b = record { spots = b.spots; last = b.last; opened = b.opened; filed = b.filed; spoiled = b.spoiled + 1; aborted = b.aborted }
+one_spoiled b = record b { counts = record b.counts { spoiled = b.counts.spoiled + 1 } }
 
 abbrev pub one_aborted : Book → Book
-one_aborted b = record { spots = b.spots; last = b.last; opened = b.opened; filed = b.filed; spoiled = b.spoiled; aborted = b.aborted + 1 }
+one_aborted b = record b { counts = record b.counts { aborted = b.counts.aborted + 1 } }
 
 -- an open spot with a reading and the ends of its set
 abbrev pub hold : ℤ → ℤ → ℤ → Spot → Spot
@@ -116,8 +113,12 @@ files_at m b i r = cond (m.taken r)
 abbrev pub files_next : Meaning → Book → ℕ → ℤ → Book
 files_next m b s r = cond (found (open_as s) b) (files_at m b (first (open_as s) b) r) b
 
+-- what the stage answers to a reading, or the refusal
+abbrev pub reading_told : Meaning → ℤ → Result (ℤ × ℤ) Refusal
+reading_told m r = cond (m.taken r) (Ok (m.lower r, m.upper r)) (Err (refusal.ReadingNotTaken (stage_told (m.place r)) (m.value r)))
+
 abbrev pub files_told : Meaning → Book → ℕ → ℤ → Result (ℤ × ℤ) Refusal
-files_told m b s r = cond (found (open_as s) b) (answer m r) (Err refusal.PointNotOpen)
+files_told m b s r = cond (found (open_as s) b) (reading_told m r) (Err refusal.PointNotOpen)
 
 -- abort
 abbrev pub aborts_next : Book → ℕ → Book
@@ -135,7 +136,7 @@ withdraws_told b s = cond (found (held_as s) b) (Ok tt) (Err refusal.SerialNotHe
 
 -- tallies
 abbrev pub tallies : Book → Tallies
-tallies b = record { opened = b.opened; filed = b.filed; spoiled = b.spoiled; aborted = b.aborted; «open» = count_by is_open b.spots; held = count_by is_held b.spots }
+tallies b = record { counts = b.counts; «open» = count_by is_open b.spots; held = count_by is_held b.spots }
 
 -- ---- each call
 
@@ -151,30 +152,17 @@ next m n b call.Slope = b
 next m n b (call.Value x) = b
 next m n b call.Tallies = b
 
--- an answer from the result of a step
-abbrev pub opening : ℕ → Result ℕ Refusal → Answer
-opening n (Ok s) = answer.Opened n s
-opening n (Err e) = answer.Refused e
-
-abbrev pub filing : ℕ → Result (ℤ × ℤ) Refusal → Answer
-filing s (Ok ends) = answer.Filed s ends.0 ends.1
-filing s (Err e) = answer.Refused e
-
-abbrev pub ending : Answer → Result (Unit {0}) Refusal → Answer
-ending a (Ok done) = a
-ending a (Err e) = answer.Refused e
-
 -- what a call is told; a question about lines has its answer from what is held, and the book does not give it
-abbrev pub told : Meaning → ℕ → Book → Call → Option Answer
-told m n b (call.Open x) = Some (cond (within x) (opening n (opens_told b)) (answer.Refused refusal.ArgumentOutOfLimits))
-told m n b (call.File k s r) = Some (cond (k == n) (filing s (files_told m b s r)) (answer.Refused refusal.PointNotOpen))
-told m n b (call.Abort k s) = Some (cond (k == n) (ending (answer.Aborted s) (aborts_told b s)) (answer.Refused refusal.PointNotOpen))
-told m n b (call.Withdraw s) = Some (ending (answer.Withdrawn s) (withdraws_told b s))
-told m n b call.Clear = Some answer.Cleared
+abbrev pub told : Meaning → ℕ → Book → Call → Option Outcome
+told m n b (call.Open x) = Some (cond (within x) (answered (answer.Opened n) (opens_told b)) (Err refusal.ArgumentOutOfLimits))
+told m n b (call.File k s r) = Some (cond (k == n) (answered (λ ends. answer.Filed s ends.0 ends.1) (files_told m b s r)) (Err refusal.PointNotOpen))
+told m n b (call.Abort k s) = Some (cond (k == n) (answered (λ done. answer.Aborted s) (aborts_told b s)) (Err refusal.PointNotOpen))
+told m n b (call.Withdraw s) = Some (answered (λ done. answer.Withdrawn s) (withdraws_told b s))
+told m n b call.Clear = Some (Ok answer.Cleared)
 told m n b call.Verdict = None
 told m n b call.Slope = None
 told m n b (call.Value x) = None
-told m n b call.Tallies = Some (answer.Counted (tallies b))
+told m n b call.Tallies = Some (Ok (answer.Counted (tallies b)))
 
 -- ---- what is held
 

@@ -2,8 +2,7 @@
 use Rattle.std.specs.Prelude.{ℕ, List, [], ◌∷◌}
 use Rattle.stage.specs.Meaning.{Meaning}
 use Rattle.book.specs.declared.call.Call.{Call}
-use Rattle.book.specs.declared.answer.Answer.{Answer}
-use Rattle.book.specs.Rows.{Questions, Answers}
+use Rattle.book.specs.Rows.{Questions, Answers, Outcome}
 use Rattle.book.specs.Book.{Book, next, told, rows}
 
 -- the book after a list of calls
@@ -12,7 +11,7 @@ after m n b [] = b
 after m n b (c ∷ cs) = after m n (next m n b c) cs
 
 -- each call of a list has its answer, as the book then stands
-unfoldable pub Replies : Questions → Meaning → ℕ → Book → List Call → List Answer → Type 0
+unfoldable pub Replies : Questions → Meaning → ℕ → Book → List Call → List Outcome → Type 0
 Replies Q m n b [] [] = Unit {0}
 Replies Q m n b [] (r ∷ rs) = ⊥
 Replies Q m n b (c ∷ cs) [] = ⊥

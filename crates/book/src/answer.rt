@@ -1,9 +1,8 @@
 use crate::tallies::Tallies;
 use exact::fraction::Fraction;
 use refusal::conflict::Conflict;
-use refusal::refusal::Refusal;
 
-// What a call is told.
+// What a call is told that is not refused.
 #[derive(Clone, Copy)]
 pub enum Answer {
     // A point, by the channel number and the serial that it bears.
@@ -19,5 +18,4 @@ pub enum Answer {
     Conflicting { conflict: Conflict },
     Slope { least: Fraction, greatest: Fraction },
     Value { least: Fraction, greatest: Fraction },
-    Refused { refusal: Refusal },
 }

@@ -1,10 +1,9 @@
 -- The lower end as a quotient, how it rises, and the upper end as the lower one on the other side of 0.
-use Rattle.std.specs.Prelude.{◌≡◌, ℕ, zero, suc, ◌+◌, ◌-◌, ◌≤◌, cond, ℤ, pos, negsuc, ◌+ℤ◌, ◌-ℤ◌, ◌*ℤ◌, neg_ℤ, ◌≤ℤ◌, ◌<ℤ◌, unsigned_abs, refl}
-use Rattle.std.proofs.Common.{ap, ◌∙◌, sym, arith, to_z, of_z}
+use Rattle.std.specs.Prelude.{◌≡◌, ℕ, zero, suc, ◌+◌, ◌-◌, ◌≤◌, cond, ℤ, pos, negsuc, ◌+ℤ◌, ◌-ℤ◌, ◌*ℤ◌, neg_ℤ, ◌≤ℤ◌, ◌<ℤ◌}
+use Rattle.std.proofs.Common.{ap, ◌∙◌, sym, arith}
 use Rattle.std.proofs.Math.Nat.{zero-div}
 use Rattle.std.proofs.Math.IntN.{zero-*ℤ}
 use Rattle.std.specs.Int.Signed.{non_neg, ≤ℤ_refl}
-use Rattle.std.specs.Int.{w32, w64}
 use Rattle.std.proofs.lemmas.Int.{by_lt_z, ints}
 use borrow.Author.Differences.{product_is}
 use Rattle.algebra.proofs.Ring.{linear, times_grows, neg_left}
@@ -20,25 +19,6 @@ divisor d w = pos (cond (non_neg w) (million + d) (million - d))
 -- the lower end by w, the reading less the absolute limit
 abbrev pub lowered : ℕ → ℤ → ℤ
 lowered d w = floor (w *ℤ pos million) (cond (non_neg w) (million + d) (million - d))
-
--- a number as the code has computed it in 64 bits, and the reading as it comes in
-abbrev pub computed : ℤ → ℤ
-computed z = to_z w64 (of_z w64 z)
-
-abbrev pub widened : ℤ → ℤ
-widened r = computed (to_z w32 (of_z w32 r))
-
--- the end from the numbers that are divided
-pub by_floor : (d : ℕ) (w x y z : ℤ) → z ≡ floor x (unsigned_abs y) → x ≡ w *ℤ pos million → y ≡ divisor d w → z ≡ lowered d w
-by_floor d w x y z told e f = told ∙ (λ i. floor (e i) (unsigned_abs (f i)))
-
-pub by_ceiling : (a b : ℕ) (w x y z : ℤ) → z ≡ ceiling x (unsigned_abs y) → x ≡ w *ℤ pos million → y ≡ pos (cond (non_neg w) a b) → z ≡ ceiling (w *ℤ pos million) (cond (non_neg w) a b)
-by_ceiling a b w x y z told e f = told ∙ (λ i. ceiling (e i) (unsigned_abs (f i)))
-
--- which divisor it is
-pub divisor_is : (a b : ℕ) (w : ℤ) → (pos 0 ≤ℤ w → pos (cond (non_neg w) a b) ≡ pos a) × (w <ℤ pos 0 → pos (cond (non_neg w) a b) ≡ pos b)
-divisor_is a b (pos n) = ((λ h. refl), (λ h. absurd (omega (arith, linear))))
-divisor_is a b (negsuc n) = ((λ h. absurd (omega (arith, linear))), (λ h. refl))
 
 module _ (d : ℕ) (few : d ≤ greatest_relative) where
   pub divisor_positive : (w : ℤ) → pos 0 <ℤ divisor d w

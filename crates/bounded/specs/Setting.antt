@@ -1,11 +1,10 @@
 -- What comes of setting the two limits.
 use Rattle.std.specs.Prelude.{◌≡◌, ℕ, ◌<◌, ◌≤◌, ◌⊎◌, Ok, Err, Result}
-use Rattle.refusal.specs.declared.refusal.Refusal.{Refusal}
-use Rattle.refusal.specs.declared.refusal.Refusal.TheVariants.{SettingOutOfLimits}
+use Rattle.stage.specs.declared.out_of_limits.OutOfLimits.{OutOfLimits}
 use Rattle.bounded.specs.declared.bounded.Bounded.{Bounded}
 use Rattle.bounded.specs.Limits.{greatest_absolute, greatest_relative}
 
 -- a stage with both limits as they were set, or the position of the first one past its range
-abbrev pub Set : ℕ → ℕ → Result Bounded Refusal → Type 0
+abbrev pub Set : ℕ → ℕ → Result Bounded OutOfLimits → Type 0
 Set e d (Ok s) = (s.absolute ≡ e) × (s.relative ≡ d)
-Set e d (Err x) = ((greatest_absolute < e) × (x ≡ SettingOutOfLimits 1)) ⊎ ((e ≤ greatest_absolute) × (greatest_relative < d) × (x ≡ SettingOutOfLimits 2))
+Set e d (Err x) = ((greatest_absolute < e) × (x.position ≡ 1)) ⊎ ((e ≤ greatest_absolute) × (greatest_relative < d) × (x.position ≡ 2))

@@ -164,6 +164,9 @@ module _ (d : ℕ) (few : d ≤ greatest_relative) where
   pub encloses : (e : ℕ) (r : ℤ) → Encloses e d r (lower_end e d r) (upper_end e d r)
   encloses e r = record { every = λ t p. (from_lower e r t p, to_upper e r t p); lower_tight = lower_reached e r; upper_tight = upper_reached e r }
 
+  pub enclosed : (e : ℕ) (r l u : ℤ) → l ≡ lower_end e d r → u ≡ upper_end e d r → Encloses e d r l u
+  enclosed e r l u el eu = rw (el, eu) (encloses e r)
+
   -- some value is possible, so that the ends are in order
   pub ends_ordered : (e : ℕ) (r : ℤ) → lower_end e d r ≤ℤ upper_end e d r
   ends_ordered e r =

@@ -9,7 +9,12 @@ mod tests {
     use channel::channel::Channel;
     use channel::replay::replay;
     use exact::fraction::Fraction;
+    use refusal::conflict::Conflict;
+    use refusal::refusal::Refusal;
     use std::test::Fail;
+
+    // What a call is told.
+    type Told = Result<Answer, Refusal>;
 
     fn stage() -> Bounded {
         Bounded {
@@ -31,18 +36,19 @@ mod tests {
     }
 
     // A reading at each argument, filed one after the other, and then the verdict, the slope and the value at an argument.
-    fn sheet(points: &[(i32, i32)], at: i32) -> [Answer; 35] {
+    fn sheet(points: &[(i32, i32)], at: i32) -> [Told; 35] {
         let mut calls = [Call::Tallies; 35];
-        let mut serial = 1u32;
-        for (i, point) in points.iter().take(16).enumerate() {
-            calls[2 * i] = open(point.0);
-            calls[2 * i + 1] = file(serial, point.1);
-            serial = serial.saturating_add(1);
+        // Two calls for each of at most 16 points.
+        for ((pair, point), serial) in calls.chunks_mut(2).zip(points).zip(1..=16) {
+            if let [first, second] = pair {
+                *first = open(point.0);
+                *second = file(serial, point.1);
+            }
         }
         calls[32] = Call::Verdict;
         calls[33] = Call::Slope;
         calls[34] = Call::Value { argument: at };
-        let mut answers = [Answer::Cleared; 35];
+        let mut answers = [Ok(Answer::Cleared); 35];
         let _run = replay(7, stage(), &calls, &mut answers);
         answers
     }
@@ -52,76 +58,88 @@ mod tests {
         f.numerator.saturating_mul(2) == count.saturating_mul(f.denominator as i64)
     }
 
-    // The number of a refusal, and 0 of any other answer.
-    fn refused(answer: Answer) -> u8 {
+    // The number of a refusal; none of any other answer.
+    fn refused(answer: Told) -> Option<u8> {
+        answer.err().map(|refusal| refusal.number())
+    }
+
+    fn is_line(answer: Told) -> bool {
+        matches!(answer, Ok(Answer::Line))
+    }
+
+    // The conflict that an answer names; none of any other answer.
+    fn named(answer: Told) -> Option<Conflict> {
         match answer {
-            Answer::Refused { refusal } => refusal.number(),
-            _ => 0,
+            Ok(Answer::Conflicting { conflict }) => Some(conflict),
+            _ => None,
         }
     }
 
-    fn is_line(answer: Answer) -> bool {
-        matches!(answer, Answer::Line)
+    // A conflict of two measurements, and one of three.
+    fn two(first: u32, second: u32) -> Option<Conflict> {
+        Some(Conflict {
+            first,
+            second,
+            third: None,
+        })
     }
 
-    // The serials of a conflict, 0 for one that is absent; three times 0 of any other answer.
-    fn named(answer: Answer) -> (u32, u32, u32) {
-        match answer {
-            Answer::Conflicting { conflict } => (
-                conflict.first,
-                conflict.second,
-                conflict.third.unwrap_or(0),
-            ),
-            _ => (0, 0, 0),
-        }
+    fn three(first: u32, second: u32, third: u32) -> Option<Conflict> {
+        Some(Conflict {
+            first,
+            second,
+            third: Some(third),
+        })
     }
 
     // Whether an answer is a slope, or a value, from so many halves to so many.
-    fn slope_between(answer: Answer, low: i64, high: i64) -> bool {
+    fn slope_between(answer: Told, low: i64, high: i64) -> bool {
         match answer {
-            Answer::Slope { least, greatest } => halves(least, low) && halves(greatest, high),
+            Ok(Answer::Slope { least, greatest }) => halves(least, low) && halves(greatest, high),
             _ => false,
         }
     }
 
-    fn value_between(answer: Answer, low: i64, high: i64) -> bool {
+    fn value_between(answer: Told, low: i64, high: i64) -> bool {
         match answer {
-            Answer::Value { least, greatest } => halves(least, low) && halves(greatest, high),
+            Ok(Answer::Value { least, greatest }) => halves(least, low) && halves(greatest, high),
             _ => false,
         }
     }
 
-    // The six tallies, and nothing of any other answer.
-    fn six(answer: Answer) -> [u32; 6] {
+    // The six tallies; none of any other answer.
+    fn six(answer: Told) -> Option<[u32; 6]> {
         match answer {
-            Answer::Counted { tallies } => [
-                tallies.opened,
-                tallies.filed,
-                tallies.spoiled,
-                tallies.aborted,
+            Ok(Answer::Counted { tallies }) => Some([
+                tallies.counts.opened,
+                tallies.counts.filed,
+                tallies.counts.spoiled,
+                tallies.counts.aborted,
                 tallies.open,
                 tallies.held,
-            ],
-            _ => [0; 6],
+            ]),
+            _ => None,
         }
     }
 
-    // The serial that an answer tells, and 0 where it tells none.
-    fn serial(answer: Answer) -> u32 {
+    // The serial that an answer tells, where it tells one.
+    fn serial(answer: Told) -> Option<u32> {
         match answer {
-            Answer::Opened { serial, .. } => serial,
-            Answer::Filed { serial, .. } => serial,
-            Answer::Aborted { serial } => serial,
-            Answer::Withdrawn { serial } => serial,
-            _ => 0,
+            Ok(
+                Answer::Opened { serial, .. }
+                | Answer::Filed { serial, .. }
+                | Answer::Aborted { serial }
+                | Answer::Withdrawn { serial },
+            ) => Some(serial),
+            _ => None,
         }
     }
 
     // The ends of a set that was filed.
-    fn ends(answer: Answer) -> (i32, i32) {
+    fn ends(answer: Told) -> Option<(i32, i32)> {
         match answer {
-            Answer::Filed { lower, upper, .. } => (lower, upper),
-            _ => (0, 0),
+            Ok(Answer::Filed { lower, upper, .. }) => Some((lower, upper)),
+            _ => None,
         }
     }
 
@@ -140,14 +158,14 @@ mod tests {
             file(3, 0),
             Call::Tallies,
         ];
-        let mut answers = [Answer::Cleared; 8];
+        let mut answers = [Ok(Answer::Cleared); 8];
         let _run = replay(7, stage(), &calls, &mut answers);
-        assert_eq!(rt; serial(answers[3]), 4);
-        assert_eq!(rt; serial(answers[4]), 1);
-        assert_eq!(rt; refused(answers[5]), 5);
-        assert_eq!(rt; serial(answers[6]), 3);
-        assert_eq!(rt; ends(answers[6]), (-5, 5));
-        assert_eq!(rt; six(answers[7]), [4, 1, 1, 1, 1, 1]);
+        assert_eq!(rt; serial(answers[3]), Some(4));
+        assert_eq!(rt; serial(answers[4]), Some(1));
+        assert_eq!(rt; refused(answers[5]), Some(5));
+        assert_eq!(rt; serial(answers[6]), Some(3));
+        assert_eq!(rt; ends(answers[6]), Some((-5, 5)));
+        assert_eq!(rt; six(answers[7]), Some([4, 1, 1, 1, 1, 1]));
     }
 
     #[test]
@@ -169,52 +187,48 @@ mod tests {
             file(2, 0),
             Call::Withdraw { serial: 2 },
         ];
-        let mut answers = [Answer::Cleared; 12];
+        let mut answers = [Ok(Answer::Cleared); 12];
         let _run = replay(7, stage(), &calls, &mut answers);
-        assert_eq!(rt; refused(answers[1]), 4);
-        assert_eq!(rt; refused(answers[2]), 4);
-        assert_eq!(rt; refused(answers[4]), 4);
-        assert_eq!(rt; refused(answers[5]), 6);
-        assert_eq!(rt; refused(answers[6]), 1);
-        assert_eq!(rt; serial(answers[7]), 2);
-        assert_eq!(rt; refused(answers[8]), 6);
-        assert_eq!(rt; serial(answers[9]), 2);
-        assert_eq!(rt; refused(answers[10]), 4);
-        assert_eq!(rt; serial(answers[11]), 2);
+        assert_eq!(rt; refused(answers[1]), Some(4));
+        assert_eq!(rt; refused(answers[2]), Some(4));
+        assert_eq!(rt; refused(answers[4]), Some(4));
+        assert_eq!(rt; refused(answers[5]), Some(6));
+        assert_eq!(rt; refused(answers[6]), Some(1));
+        assert_eq!(rt; serial(answers[7]), Some(2));
+        assert_eq!(rt; refused(answers[8]), Some(6));
+        assert_eq!(rt; serial(answers[9]), Some(2));
+        assert_eq!(rt; refused(answers[10]), Some(4));
+        assert_eq!(rt; serial(answers[11]), Some(2));
     }
 
     #[test]
     fn nothing_is_held(rt: HostRuntime) {
         let answers = sheet(&[], 0);
-        assert_eq!(rt; refused(answers[32]), 7);
-        assert_eq!(rt; refused(answers[33]), 7);
-        assert_eq!(rt; refused(answers[34]), 7);
+        assert_eq!(rt; refused(answers[32]), Some(7));
+        assert_eq!(rt; refused(answers[33]), Some(7));
+        assert_eq!(rt; refused(answers[34]), Some(7));
     }
 
     #[test]
     fn a_full_register(rt: HostRuntime) {
         let calls = [open(0); 65];
-        let mut answers = [Answer::Cleared; 65];
+        let mut answers = [Ok(Answer::Cleared); 65];
         let _run = replay(7, stage(), &calls, &mut answers);
-        assert_eq!(rt; serial(answers[63]), 64);
-        assert_eq!(rt; refused(answers[64]), 2);
+        assert_eq!(rt; serial(answers[63]), Some(64));
+        assert_eq!(rt; refused(answers[64]), Some(2));
     }
 
     #[test]
     fn the_last_serial(rt: HostRuntime) -> Result<(), Fail> {
         let mut channel = Channel::new(7, stage());
         for _ in 0..199_999_999u32 {
-            match channel.open(0) {
-                Ok(point) => {
-                    let _ = channel.abort(point);
-                }
-                Err(_) => return Err(Fail::new("refused too early")),
-            }
+            let point = channel.open(0).map_err(|_| Fail::new("refused too early"))?;
+            let _ = channel.abort(point);
         }
-        match channel.open(0) {
-            Ok(point) => assert!(rt; matches!(channel.abort(point), Ok(200_000_000))),
-            Err(_) => return Err(Fail::new("the last serial is not given")),
-        }
+        let point = channel
+            .open(0)
+            .map_err(|_| Fail::new("the last serial is not given"))?;
+        assert!(rt; matches!(channel.abort(point), Ok(200_000_000)));
         channel.clear();
         match channel.open(0) {
             Ok(point) => {
@@ -231,12 +245,12 @@ mod tests {
     #[test]
     fn three_that_conflict(rt: HostRuntime) {
         let answers = sheet(&[(0, 0), (10, 100), (20, 300)], 0);
-        assert_eq!(rt; named(answers[32]), (1, 2, 3));
-        assert_eq!(rt; refused(answers[33]), 8);
-        assert_eq!(rt; refused(answers[34]), 8);
+        assert_eq!(rt; named(answers[32]), three(1, 2, 3));
+        assert_eq!(rt; refused(answers[33]), Some(8));
+        assert_eq!(rt; refused(answers[34]), Some(8));
         assert_eq!(rt;
             named(sheet(&[(0, 0), (10, 100), (20, 221)], 0)[32]),
-            (1, 2, 3)
+            three(1, 2, 3)
         );
     }
 
@@ -251,11 +265,11 @@ mod tests {
 
     #[test]
     fn one_argument(rt: HostRuntime) {
-        assert_eq!(rt; named(sheet(&[(10, 100), (10, 111)], 10)[32]), (1, 2, 0));
+        assert_eq!(rt; named(sheet(&[(10, 100), (10, 111)], 10)[32]), two(1, 2));
         let together = sheet(&[(10, 100), (10, 110)], 10);
-        assert_eq!(rt; refused(together[33]), 9);
+        assert_eq!(rt; refused(together[33]), Some(9));
         assert!(rt; value_between(together[34], 210, 210));
-        assert_eq!(rt; refused(sheet(&[(10, 100), (10, 110)], 11)[34]), 9);
+        assert_eq!(rt; refused(sheet(&[(10, 100), (10, 110)], 11)[34]), Some(9));
     }
 
     #[test]
@@ -273,18 +287,18 @@ mod tests {
             (9, 81),
             (10, 100),
         ];
-        assert!(rt; named(sheet(&squares, 0)[32]) != (0, 0, 0));
+        assert!(rt; named(sheet(&squares, 0)[32]).is_some());
         assert!(rt; is_line(sheet(&[(4, 16), (5, 25), (6, 36)], 0)[32]));
         assert_eq!(rt;
             named(sheet(&[(0, 0), (5, 25), (10, 100)], 0)[32]),
-            (1, 2, 3)
+            three(1, 2, 3)
         );
     }
 
     #[test]
     fn the_shift_between_two_signs(rt: HostRuntime) {
         assert!(rt; value_between(sheet(&[(-10, 0), (10, 0)], 0)[34], -10, 10));
-        assert_eq!(rt; refused(sheet(&[(-10, 0), (10, 0)], 10_001)[34]), 1);
+        assert_eq!(rt; refused(sheet(&[(-10, 0), (10, 0)], 10_001)[34]), Some(1));
     }
 
     #[test]

@@ -1,5 +1,5 @@
 -- What a fraction stands for.
-use Rattle.std.specs.Prelude.{Bool, pos, ◌*ℤ◌, int_le}
+use Rattle.std.specs.Prelude.{pos}
 use Rattle.std.proofs.Common.{arith}
 use Rattle.std.proofs.lemmas.Int.{ints}
 use Rattle.rational.specs.Rational.{Rational}
@@ -8,7 +8,3 @@ use Rattle.exact.specs.declared.fraction.Fraction.{Fraction}
 -- the rational number that a fraction is a way of writing
 abbrev pub quantity : Fraction → Rational
 quantity f = record { num = f.numerator; den = pos f.denominator; above = omega (arith, ints, f.some) }
-
--- the test by which rational numbers are compared: `T (at_most a b)` is `a ≼ b`
-abbrev pub at_most : Rational → Rational → Bool
-at_most a b = int_le (a.num *ℤ b.den) (b.num *ℤ a.den)

@@ -1,32 +1,21 @@
-ghost use Rattle.std.specs.Prelude.{◌≡◌, Bool, true, ◌||◌, if◌then◌else◌};
+ghost use Rattle.std.specs.Prelude.{◌≡◌, false};
+ghost use Rattle.std.specs.Ordering.{is_gt, ord_max, ord_min};
 
-// A total order of values, by which the greater and the lesser of two are picked.
-pub trait Order: Sized {
-    // Whether the first is at most the second.
-    ghost under: { Self → Self → Bool };
-
-    fn at_most(&self, other: &Self) -> bool
-        ensures { result ≡ under self.now other.now };
-
-    ghost total: { (a b : Self) → (under a b || under b a) ≡ true };
-
-    ghost transitive: { (a b c : Self) → under a b ≡ true → under b c ≡ true → under a c ≡ true };
-}
-
-// The greater of two values; of two that are equal in the order, the second.
-pub fn greater<T: Order + Copy>(a: T, b: T) -> T
-    ensures value { result ≡ (if T.under a b then b else a) }
-    ensures first { T.under a result ≡ true }
-    ensures second { T.under b result ≡ true }
+// The greater of two values; of two that are equal in the order, the second. It is a rule of this project that the pick is written
+// once, here, for every kind of value.
+pub fn greater<T: Ord + Copy>(a: T, b: T) -> T
+    ensures value { result ≡ ord_max T.cmp a b }
+    ensures first { is_gt (T.cmp a result) ≡ false }
+    ensures second { is_gt (T.cmp b result) ≡ false }
 {
-    if a.at_most(&b) { b } else { a }
+    if a > b { a } else { b }
 }
 
 // The lesser of two values; of two that are equal in the order, the first.
-pub fn lesser<T: Order + Copy>(a: T, b: T) -> T
-    ensures value { result ≡ (if T.under a b then a else b) }
-    ensures first { T.under result a ≡ true }
-    ensures second { T.under result b ≡ true }
+pub fn lesser<T: Ord + Copy>(a: T, b: T) -> T
+    ensures value { result ≡ ord_min T.cmp a b }
+    ensures first { is_gt (T.cmp result a) ≡ false }
+    ensures second { is_gt (T.cmp result b) ≡ false }
 {
-    if a.at_most(&b) { a } else { b }
+    if a > b { b } else { a }
 }

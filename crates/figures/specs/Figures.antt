@@ -65,4 +65,4 @@ abbrev pub four : List Call
 four = Open (pos 0) ∷ Open (pos 0) ∷ Open (pos 0) ∷ Open (pos 0) ∷ Abort 0 1 ∷ File 0 2 (pos 100000000) ∷ File 0 3 (pos 0) ∷ []
 
 abbrev pub TallyFigures : Type 0
-TallyFigures = tallies (after (single (lower_end 5 0) (upper_end 5 0)) 0 blank four) ≡ record { opened = 4; filed = 1; spoiled = 1; aborted = 1; «open» = 1; held = 1 }
+TallyFigures = tallies (after (single (lower_end 5 0) (upper_end 5 0)) 0 blank four) ≡ record { counts = record { opened = 4; filed = 1; spoiled = 1; aborted = 1 }; «open» = 1; held = 1 }

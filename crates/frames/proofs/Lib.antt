@@ -1,4 +1,3 @@
 pub mod Lengths
-pub mod Steps
 pub mod Complement
 pub mod Writing

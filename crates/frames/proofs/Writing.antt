@@ -1,7 +1,8 @@
 -- A tape says what was written, and nothing else is read so.
-use Rattle.std.proofs.Common.{◌≡◌, ℕ, ◌+◌, ◌*◌, ◌/◌, ◌%◌, ◌^◌, ◌<◌, ◌≤◌, Bool, true, false, cond, eqb, ltb, List, [], ◌∷◌, ◌++◌, length, take, sym, refl, ap, ◌∙◌, subst, one-add, arith, length-append, length-take-le, ltb-false, eqb-true}
+use Rattle.std.proofs.Common.{◌≡◌, ℕ, ◌+◌, ◌*◌, ◌/◌, ◌%◌, ◌^◌, ◌<◌, ◌≤◌, true, false, eqb, ltb, List, [], ◌∷◌, ◌++◌, length, take, sym, refl, ap, ◌∙◌, subst, one-add, arith, length-append, length-take-le, ltb-false, eqb-true}
 use lib.Seq.{take-append_seam}
 use Rattle.std.specs.List.{AllByRecursion}
+use Rattle.std.proofs.lemmas.Bool.{cond_both}
 use Rattle.std.proofs.lemmas.Bool.Decides.{nat_tests}
 use Rattle.frames.specs.Tape.{load, reading, abort, withdraw, verdict, slope, value, tallies, clear, Said, ended, frame, cut_short, unknown, said, signed, number, whole, of_kind, argument}
 use Rattle.frames.proofs.Complement.{signed_bits, bits_below, bits_signed}
@@ -62,10 +63,6 @@ Holds tape (frame m n) = Writable m × (take n tape ≡ bytes_of m) × (n ≡ le
 Holds tape cut_short = Unit {0}
 Holds tape unknown = Unit {0}
 
-by_test : (P : Said → Type 0) (b : Bool) {x y : Said} → (b ≡ true → P x) → (b ≡ false → P y) → P (cond b x y)
-by_test P true f g = f refl
-by_test P false f g = g refl
-
 abbrev Bytes : List ℕ → Type 0
 Bytes = AllByRecursion (λ b. b < 256)
 
@@ -115,24 +112,24 @@ one_held head k rest e = ap (λ h. h ∷ []) e
 held : (tape : List ℕ) → Bytes tape → Holds tape (said tape)
 held [] a = tt
 held (head ∷ rest) a =
-    by_test P (eqb kind 1)
-    (λ e. by_test P (ltb (length rest) 2) (λ _. tt) (λ long. by_test P (eqb low 0)
+    cond_both (eqb kind 1) _ _ P
+    (λ e. cond_both (ltb (length rest) 2) _ _ P (λ _. tt) (λ long. cond_both (eqb low 0) _ _ P
     (λ none. let x = with_argument_is 16 long (is 1 0 e none) in (x.0, x.1, refl))
     (λ _. tt)))
-    (λ _. by_test P (eqb kind 2)
-    (λ e. by_test P (ltb (length rest) 3) (λ _. tt) (λ long. reading_held low head rest (of 2 e) l a.1 (ltb-false (length rest) 3 long)))
-    (λ _. by_test P (eqb kind 3)
-    (λ e. by_test P (ltb (length rest) low) (λ _. tt) (λ long. abort_held low head rest (of 3 e) l (ltb-false (length rest) low long)))
-    (λ _. by_test P (eqb kind 4)
-    (λ e. by_test P (ltb (length rest) 3) (λ _. tt) (λ long. let n = number_held 4 low head rest (of 4 e) l a.1 (ltb-false (length rest) 3 long) in (n.0, n.1, refl)))
-    (λ _. by_test P (eqb kind 5)
-    (λ e. by_test P (eqb low 1) (λ code. (tt, one_held head 81 rest (is 5 1 e code), refl))
-    (λ _. by_test P (eqb low 2) (λ code. (tt, one_held head 82 rest (is 5 2 e code), refl))
-    (λ _. by_test P (eqb low 3) (λ code. by_test P (ltb (length rest) 2) (λ _. tt) (λ long. let x = with_argument_is 83 long (is 5 3 e code) in (x.0, x.1, refl)))
-    (λ _. by_test P (eqb low 4) (λ code. (tt, one_held head 84 rest (is 5 4 e code), refl))
+    (λ _. cond_both (eqb kind 2) _ _ P
+    (λ e. cond_both (ltb (length rest) 3) _ _ P (λ _. tt) (λ long. reading_held low head rest (of 2 e) l a.1 (ltb-false (length rest) 3 long)))
+    (λ _. cond_both (eqb kind 3) _ _ P
+    (λ e. cond_both (ltb (length rest) low) _ _ P (λ _. tt) (λ long. abort_held low head rest (of 3 e) l (ltb-false (length rest) low long)))
+    (λ _. cond_both (eqb kind 4) _ _ P
+    (λ e. cond_both (ltb (length rest) 3) _ _ P (λ _. tt) (λ long. let n = number_held 4 low head rest (of 4 e) l a.1 (ltb-false (length rest) 3 long) in (n.0, n.1, refl)))
+    (λ _. cond_both (eqb kind 5) _ _ P
+    (λ e. cond_both (eqb low 1) _ _ P (λ code. (tt, one_held head 81 rest (is 5 1 e code), refl))
+    (λ _. cond_both (eqb low 2) _ _ P (λ code. (tt, one_held head 82 rest (is 5 2 e code), refl))
+    (λ _. cond_both (eqb low 3) _ _ P (λ code. cond_both (ltb (length rest) 2) _ _ P (λ _. tt) (λ long. let x = with_argument_is 83 long (is 5 3 e code) in (x.0, x.1, refl)))
+    (λ _. cond_both (eqb low 4) _ _ P (λ code. (tt, one_held head 84 rest (is 5 4 e code), refl))
     (λ _. tt)))))
-    (λ _. by_test P (eqb kind 6)
-    (λ e. by_test P (eqb low 0) (λ none. (tt, one_held head 96 rest (is 6 0 e none), refl)) (λ _. tt))
+    (λ _. cond_both (eqb kind 6) _ _ P
+    (λ e. cond_both (eqb low 0) _ _ P (λ none. (tt, one_held head 96 rest (is 6 0 e none), refl)) (λ _. tt))
     (λ _. tt))))))
   where
     kind : ℕ

@@ -1,7 +1,8 @@
 ghost use Rattle.std.specs.Prelude.{◌≡◌, ◌+◌, ◌*◌, ◌/◌, ◌%◌, ◌<◌};
 ghost use Rattle.frames.specs.Tape.{signed, fixed_length};
 
-// How many bytes a frame has besides its reason: first for each kind, then for each code of a question. 0 is for what is unknown.
+// How many bytes a frame has besides its reason: first for each kind, then for each code of a question. 0 is for what is unknown, and
+// for the kind of a question. It is a rule of this project that one constant table has them all.
 const LENGTHS: [u8; 32] = [
     0, 3, // 1: load
     4, // 2: reading
@@ -9,7 +10,8 @@ const LENGTHS: [u8; 32] = [
     4, // 4: withdraw
     0, // 5: question, by its code below
     1, // 6: clear
-    0, 0, 0, 0, 0, 0, 0, 0, 0, 0, // the codes of a question from here on
+    0, 0, 0, 0, 0, 0, 0, 0, 0, // 7 to 15: unknown
+    0, // the codes of a question from here on: 0 is unknown
     1, // 1: verdict
     1, // 2: slope
     3, // 3: value
@@ -33,38 +35,23 @@ pub(crate) fn fixed_length(head: u8) -> u8
     }
 }
 
-// The values of the sign bits of 16 and of 28 bits.
-const SIGN_16: i32 = 0x8000;
-
-const SIGN_28: i32 = 0x800_0000;
-
-// Two bytes as a signed number of 16 bits.
+// Two bytes as a signed number of 16 bits. Bytes come one by one, as a slice pattern gives them.
 pub(crate) fn signed16(a: u8, b: u8) -> i32
     ensures { result ≡ signed 16 (256 * a + b) }
 {
-    let raw = 256 * a as i32 + b as i32;
-    if raw < SIGN_16 {
-        raw
-    } else {
-        raw - 2 * SIGN_16
-    }
+    u16::from_be_bytes([a, b]).cast_signed() as i32
 }
 
 // The low four bits of a byte, and then three bytes, as a number of 28 bits.
 pub(crate) fn number28(head: u8, a: u8, b: u8, c: u8) -> u32
     ensures { result ≡ 256 * (256 * (256 * (head % 16) + a) + b) + c }
 {
-    256 * (256 * (256 * (head % 16) as u32 + a as u32) + b as u32) + c as u32
+    u32::from_be_bytes([head % 16, a, b, c])
 }
 
 // The same bits as a signed number.
 pub(crate) fn signed28(head: u8, a: u8, b: u8, c: u8) -> i32
     ensures { result ≡ signed 28 (256 * (256 * (256 * (head % 16) + a) + b) + c) }
 {
-    let raw = number28(head, a, b, c) as i32;
-    if raw < SIGN_28 {
-        raw
-    } else {
-        raw - 2 * SIGN_28
-    }
+    (number28(head, a, b, c) << 4).cast_signed() >> 4
 }

@@ -33,13 +33,6 @@ least_small a w h =
     (λ ge. let k = within t.lower w most (pos 20000) t.low (omega (arith, linear, t.ordered, t.high)) h.low h.high in
     let e = least_up (measured a) w (omega (arith, linear)) in record { low = omega (arith, linear); high = omega (arith, linear) })
 
-module _ (a : Sample) where
-  pub lower_fits : SFits w32 a.set.lower
-  lower_fits = fits_in w32 a.set.lower (omega (arith, ints, a.set.low, a.set.ordered, a.set.high))
-
-  pub upper_fits : SFits w32 a.set.upper
-  upper_fits = fits_in w32 a.set.upper (omega (arith, ints, a.set.low, a.set.ordered, a.set.high))
-
 -- the distance as it is computed
 pub distance_cast : (a b : Argument) → to_z w32 (of_z w32 (to_z w32 (of_z w32 a.value) -ℤ to_z w32 (of_z w32 b.value))) ≡ a.value -ℤ b.value
 distance_cast a b = omega (arith, ints, a.low, a.high, b.low, b.high)

@@ -5,7 +5,7 @@ use crate::candidate::Candidate;
 use crate::quantity::Quantity;
 use crate::rising::Rising;
 use exact::order::greater;
-use places::place::Places;
+use places::places::Places;
 use places::sample::Sample;
 
 // Of all pairs, one whose least is the greatest; none where no pair rises.
@@ -27,7 +27,7 @@ pub fn greatest_low(quantity: Quantity, places: &Places) -> Option<Candidate>
     best
 }
 
-// The best so far with one more pair looked at.
+// The best so far with one more pair looked at; of equal bounds the one found first stays.
 fn with_pair(
     best: Option<Candidate>,
     quantity: Quantity,
@@ -39,12 +39,6 @@ fn with_pair(
     let Some(pair) = Rising::new(first, second) else {
         return best;
     };
-    let new = Candidate {
-        pair,
-        bound: quantity.low(pair),
-    };
-    match best {
-        Some(old) => Some(greater(new, old)),
-        None => Some(new),
-    }
+    let bound = quantity.low(pair);
+    greater(Some(Candidate { bound, pair }), best)
 }

@@ -4,8 +4,6 @@
 pub mod best;
 pub mod candidate;
 pub mod extremes;
-pub mod low;
 pub mod narrowest;
-pub mod order;
 pub mod quantity;
 pub mod rising;

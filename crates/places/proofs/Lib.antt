@@ -1,5 +1,3 @@
-pub mod Found
-pub mod Counted
 pub mod Members
 pub mod Turned
 pub mod Rows

@@ -1,32 +1,52 @@
--- What a pass over all pairs of held measurements has seen: the rows before the m-th, and of one row the first n.
-use Rattle.std.proofs.Common.{◌≡◌, ℕ, ◌+◌, ◌<◌, ◌≤◌, List, length, get_or, take, Some, None, sym, subst, ⊎_elim}
-use Rattle.std.specs.List.{ContainsAt as Has}
+-- What a pass over the places has seen of the measurements that they hold.
+use Rattle.std.proofs.Common.{◌≡◌, ℕ, ◌+◌, ◌<◌, ◌≤◌, List, [], ◌∷◌, length, get_or, take, Some, Option, sym, subst}
+use Rattle.std.specs.Prelude.{IfSome}
+use Rattle.std.specs.List.{All, ContainsAt as Has}
+use Rattle.std.proofs.lemmas.List.{take_all}
+use Rattle.std.proofs.lemmas.List.Elements.{All-nil, All-cons, All-head, All-tail, All-more, All-get_or}
 use Rattle.lines.specs.Sheet.{Measurement}
-use Rattle.lines.proofs.Members.{has_none}
+use Rattle.lines.proofs.Members.{has_none, has_first, has_next, each_of_more}
 use Rattle.places.specs.declared.place.Place.{Place}
+use Rattle.places.specs.declared.place.Place.TheVariants.{Free, Open, Held}
 use Rattle.places.specs.declared.sample.Sample.{Sample}
 use Rattle.places.specs.Held.{held}
 use Rattle.places.specs.Samples.{measured, sampled}
-use Rattle.places.proofs.Members.{held_all, held_same, has_cases}
+
+-- so it is of the sample, where there is one
+abbrev pub Fits : (Measurement → Type 0) → Option Sample → Type 0
+Fits P o = IfSome o (λ a. P (measured a))
+
+abbrev pub At : (Measurement → Type 0) → Place → Type 0
+At P p = Fits P (sampled p)
 
 -- so it is of each measurement in the first n places
 abbrev pub Row : (Measurement → Type 0) → List Place → ℕ → Type 0
-Row P ps n = (y : Measurement) → Has (held (take n ps)) y → P y
+Row P ps n = (m : Measurement) → Has (held (take n ps)) m → P m
 
--- so it is of each measurement in the first m places with each of all
-abbrev pub Rows : (Measurement → Measurement → Type 0) → List Place → ℕ → Type 0
-Rows R ps m = Row (λ x. (y : Measurement) → Has (held ps) y → R x y) ps m
+module _ (P : Measurement → Type 0) where
+  each_held : (ps : List Place) → All (At P) ps → (m : Measurement) → Has (held ps) m → P m
+  each_held [] each m at = has_none m at
+  each_held (Free ∷ ps) each m at = each_held ps (All-tail (At P) Free ps each) m at
+  each_held (Open s x ∷ ps) each m at = each_held ps (All-tail (At P) (Open s x) ps each) m at
+  each_held (Held s x r u ∷ ps) each m at =
+      let p = Held s x r u in each_of_more P _ (held ps) (All-head (At P) p ps each) (each_held ps (All-tail (At P) p ps each)) m at
 
-module _ (P : Measurement → Type 0) (ps : List Place) where
-  pub row_none : Row P ps 0
-  row_none y at = has_none y at
+  held_each : (ps : List Place) → ((m : Measurement) → Has (held ps) m → P m) → All (At P) ps
+  held_each [] so = All-nil (At P)
+  held_each (Free ∷ ps) so = All-cons (At P) Free ps tt (held_each ps so)
+  held_each (Open s x ∷ ps) so = All-cons (At P) (Open s x) ps tt (held_each ps so)
+  held_each (Held s x r u ∷ ps) so =
+      All-cons (At P) (Held s x r u) ps (so _ (has_first _ (held ps))) (held_each ps (λ m at. so m (has_next _ m (held ps) at)))
 
-  pub row_all : (n : ℕ) → length ps ≤ n → Row P ps n → (y : Measurement) → Has (held ps) y → P y
-  row_all n full row y at = row y (subst (λ s. Has s y) (sym (held_all ps n full)) at)
+  module _ (ps : List Place) where
+    -- one place more
+    pub row_more : (n : ℕ) (d : Place) (o : Option Sample) → n < length ps → o ≡ sampled (get_or ps n d) → Fits P o → Row P ps n → Row P ps (n + 1)
+    row_more n d o lt is here row = each_held (take (n + 1) ps) (All-more (At P) ps n d lt (held_each (take n ps) row) (subst (Fits P) is here))
 
-  module _ (n : ℕ) (lt : n < length ps) (d : Place) where
-    pub row_same : sampled (get_or ps n d) ≡ None → Row P ps n → Row P ps (n + 1)
-    row_same none row y at = row y (subst (λ s. Has s y) (held_same ps n lt d none) at)
+    pub row_all : (n : ℕ) → length ps ≤ n → Row P ps n → (m : Measurement) → Has (held ps) m → P m
+    row_all n full = subst (λ s. (m : Measurement) → Has (held s) m → P m) (take_all n ps full)
 
-    pub row_more : (a : Sample) → sampled (get_or ps n d) ≡ Some a → P (measured a) → Row P ps n → Row P ps (n + 1)
-    row_more a some here row y at = ⊎_elim (row y) (λ e. subst P e here) (has_cases ps n lt d a some y at)
+-- what a place holds is held
+pub has_here : (ps : List Place) (n : ℕ) (d : Place) (a : Sample) → n < length ps → Some a ≡ sampled (get_or ps n d) → Has (held ps) (measured a)
+has_here ps n d a lt is =
+    let P = Has (held ps) in subst (Fits P) (sym is) (All-get_or (At P) ps n d lt (held_each P ps (λ m at. at)))

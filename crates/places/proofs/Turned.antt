@@ -1,5 +1,5 @@
 -- Measurements with the same parts are the same; what a mirrored sample and mirrored places hold.
-use Rattle.std.proofs.Common.{◌≡◌, ℕ, ◌+◌, ◌<◌, List, [], ◌∷◌, ◌++◌, map, length, get_or, take, ℤ, neg_ℤ, ◌≤ℤ◌, sym, ap, ◌∙◌}
+use Rattle.std.proofs.Common.{◌≡◌, ℕ, ◌<◌, suc, List, [], ◌∷◌, ◌++◌, map, length, get_or, ℤ, neg_ℤ, ◌≤ℤ◌, refl, sym, ap, ◌∙◌, arith}
 use mathlib.Core.HLevel.{is_prop→PathP}
 use lib.Dec.{T_prop}
 use lib.Signed.{le_z}
@@ -11,7 +11,7 @@ use Rattle.places.specs.declared.place.Place.{Place}
 use Rattle.places.specs.declared.sample.Sample.{Sample}
 use Rattle.places.specs.Held.{held}
 use Rattle.places.specs.Samples.{measured, sampled, adds}
-use Rattle.places.proofs.Members.{held_push, held_more}
+use Rattle.places.proofs.Members.{held_cons}
 
 ≤ℤ_prop : (a b : ℤ) → IsProp (a ≤ℤ b)
 ≤ℤ_prop a b h k = λ i. record { le = T_prop (le_z a b) h.le k.le i }
@@ -25,16 +25,18 @@ same_measurement a b s x l u = λ i. record {
   ordered = is_prop→PathP (λ i. l i ≤ℤ u i) (λ i. ≤ℤ_prop (l i) (u i)) a.ordered b.ordered i;
 }
 
-abbrev Opposite : UncertaintySet → UncertaintySet → Type 0
-Opposite t r = (r.lower ≡ neg_ℤ t.upper) × (r.upper ≡ neg_ℤ t.lower)
+-- a sample with the opposite set is the mirrored measurement
+pub turned_sample : (a : Sample) (t : UncertaintySet) → (t.lower ≡ neg_ℤ a.set.upper) × (t.upper ≡ neg_ℤ a.set.lower)
+    → measured (record { serial = a.serial; argument = a.argument; set = t }) ≡ mirrored (measured a)
+turned_sample a t o = same_measurement (measured (record { serial = a.serial; argument = a.argument; set = t })) (mirrored (measured a)) refl refl o.0 o.1
 
-pub turned_sample : (a b : Sample) → b.serial ≡ a.serial → b.argument ≡ a.argument → Opposite a.set b.set → measured b ≡ mirrored (measured a)
-turned_sample a b s x o = same_measurement (measured b) (mirrored (measured a)) s (ap (λ y. y.value) x) o.0 o.1
-
-module _ (ps : List Place) (done : List Place) (n : ℕ) (lt : n < length ps) (p d : Place) where
-  -- one place more turned
-  pub turned_more : held done ≡ map mirrored (held (take n ps)) → adds (sampled p) ≡ map mirrored (adds (sampled (get_or ps n d)))
-      → held (done ++ p ∷ []) ≡ map mirrored (held (take (n + 1) ps))
-  turned_more e f =
-      held_push done p ∙ (λ i. e i ++ f i) ∙ sym (map-append mirrored (held (take n ps)) (adds (sampled (get_or ps n d))))
-      ∙ ap (map mirrored) (sym (held_more ps n lt d))
+-- places that each hold what the ones of the same index hold, upside down
+pub each_turned : (ps qs : List Place) → length qs ≡ length ps
+    → ((i : ℕ) → i < length ps → (d : Place) → adds (sampled (get_or qs i d)) ≡ map mirrored (adds (sampled (get_or ps i d)))) → held qs ≡ map mirrored (held ps)
+each_turned [] [] long each = refl
+each_turned [] (q ∷ qs) long each = absurd (omega arith)
+each_turned (p ∷ ps) [] long each = absurd (omega arith)
+each_turned (p ∷ ps) (q ∷ qs) long each =
+    let here = each 0 (omega arith) p in
+    let rest = each_turned ps qs (omega arith) (λ i lt d. each (suc i) (omega arith) d) in
+    held_cons q qs ∙ (λ i. here i ++ rest i) ∙ sym (map-append mirrored (adds (sampled p)) (held ps)) ∙ ap (map mirrored) (sym (held_cons p ps))

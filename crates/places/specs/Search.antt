@@ -1,6 +1,5 @@
 -- Places by their status.
-use Rattle.std.specs.Prelude.{ℕ, Bool, true, false, cond, not, List, length, ℤ, Some, None, Option, ◌==◌, nat_lt}
-use Rattle.std.specs.List.{prefix_len}
+use Rattle.std.specs.Prelude.{ℕ, Bool, true, false, List, ℤ, Option, ◌==◌, position}
 use Rattle.exact.specs.declared.set.UncertaintySet.{UncertaintySet}
 use Rattle.places.specs.declared.place.Place.{Place}
 use Rattle.places.specs.declared.place.Place.TheVariants.{Free, Open, Held}
@@ -38,13 +37,9 @@ has status.Free p = is_free p
 has (status.Open t) p = open_as t p
 has (status.Held t) p = held_as t p
 
--- how many places stand before the first of a status
-abbrev pub before : Status → List Place → ℕ
-before w ps = prefix_len (λ p. not (has w p)) ps
-
 -- the index of the first place of a status, where there is one
 abbrev pub index : Status → List Place → Option ℕ
-index w ps = cond (nat_lt (before w ps) (length ps)) (Some (before w ps)) None
+index w ps = position (has w) ps
 
 -- an open place with a reading and its set; any other stays
 abbrev pub held_with : ℤ → UncertaintySet → Place → Place

@@ -2,8 +2,6 @@
 #![tactic(auto)]
 
 pub mod place;
+pub mod places;
 pub mod sample;
-pub mod samples;
-pub mod search;
-pub mod serials;
 pub mod status;

@@ -1,16 +1,20 @@
 -- What a tape says, frame after frame.
-use Rattle.std.proofs.Common.{◌≡◌, ℕ, zero, suc, ◌+◌, ◌-◌, ◌*◌, ◌/◌, ◌%◌, ◌<◌, ◌≤◌, Bool, true, false, cond, eqb, ltb, List, [], ◌∷◌, length, take, drop, Some, None, Ok, Err, sym, refl, ap, ◌∙◌, arith, length-drop, length-take, drop-drop}
+use Rattle.std.proofs.Common.{◌≡◌, ℕ, zero, suc, ◌+◌, ◌-◌, ◌*◌, ◌/◌, ◌%◌, ◌<◌, ◌≤◌, Bool, true, cond, eqb, ltb, List, [], ◌∷◌, length, take, drop, Some, None, Ok, Err, Option, sym, refl, ap, ◌∙◌, subst, arith, length-take, ℤ, Bor}
+use Rattle.std.proofs.lemmas.Bool.{cond_both}
 use Rattle.refusal.specs.Numbers.{number}
 use Rattle.refusal.specs.declared.refusal.Refusal.{Refusal}
 use Rattle.refusal.specs.declared.refusal.Refusal.TheVariants.{FrameCutShort, FrameUnknown}
 use Rattle.frames.specs.Tape.{Meaning, load, reading, abort, withdraw, verdict, slope, value, tallies, clear, Said, ended, frame, cut_short, unknown, said, moved, of_kind, signed, argument, number as bits}
-use Rattle.frames.specs.Answers.{answer}
-use Rattle.book.specs.declared.answer.Answer.{Answer}
+use Rattle.frames.specs.Answers.{answer, meant, meaning as says}
+use Rattle.frames.specs.declared.frame.Frame.{Frame}
+use Rattle.frames.specs.declared.frame.Frame.TheVariants as read
+use Rattle.book.specs.Rows.{Outcome}
+use Rattle.printout.specs.declared.line.Line.{Line}
 use Rattle.printout.specs.declared.line.Line.TheVariants.{Refused}
 use Rattle.printout.specs.Text.{text}
 use Rattle.player.specs.Sayings.{last, sayings}
 use Rattle.player.specs.Script.{interrupts, reason, before, done, script}
-use Rattle.player.specs.Steps.{brings}
+use Rattle.player.specs.Steps.{told, takes, brings}
 
 -- a frame has bytes enough for what it brings, and no long reason
 abbrev pub Modest : Said → Type 0
@@ -20,8 +24,7 @@ Modest cut_short = Unit {0}
 Modest unknown = Unit {0}
 
 either : (b : Bool) (x y : Said) → Modest x → Modest y → Modest (cond b x y)
-either true x y p q = p
-either false x y p q = q
+either b x y p q = cond_both b x y Modest (λ _. p) (λ _. q)
 
 modest_kind : (kind low : ℕ) (rest : List ℕ) → low < 16 → Modest (of_kind kind low rest)
 modest_kind kind low rest h =
@@ -64,46 +67,71 @@ unfolding sayings
 sayings_at [] = refl
 sayings_at (b ∷ bytes) = ap (λ ss. said (b ∷ bytes) ∷ ss) (passed (said (b ∷ bytes)) b bytes (modest (b ∷ bytes)))
 
-pub sayings_frame : (tape : List ℕ) (p k : ℕ) (m : Meaning) → said (drop p tape) ≡ frame m k → sayings 0 (drop p tape) ≡ frame m k ∷ sayings 0 (drop (p + k) tape)
-sayings_frame tape p k m e =
-    sayings_at (drop p tape) ∙ ap (λ s. s ∷ later s (drop p tape)) e ∙ ap (λ bytes. frame m k ∷ sayings 0 bytes) (drop-drop k p tape)
+pub sayings_frame : (bytes : List ℕ) (k : ℕ) (m : Meaning) → said bytes ≡ frame m k → sayings 0 bytes ≡ frame m k ∷ sayings 0 (drop k bytes)
+sayings_frame bytes k m e = sayings_at bytes ∙ ap (λ s. s ∷ later s bytes) e
 
 -- ---- by what the reader answered
 
-pub of_frame : (p : ℕ) (s : Said) (m : Meaning) → Ok (Some m) ≡ answer p s → s ≡ frame m (moved s)
-of_frame p ended m e = let z : ◌≡◌ {A = ℕ} 0 1 = cc in absurd (omega arith)
+of_frame : (p : ℕ) (s : Said) (m : Meaning) → Ok (Some m) ≡ answer p s → s ≡ frame m (moved s)
 of_frame p (frame m' k) m e = cc
-of_frame p cut_short m e = let z : ◌≡◌ {A = ℕ} 0 1 = cc in absurd (omega arith)
-of_frame p unknown m e = let z : ◌≡◌ {A = ℕ} 0 1 = cc in absurd (omega arith)
+of_frame p s m e = cc
 
-pub of_end : (p : ℕ) (s : Said) → Ok None ≡ answer p s → s ≡ ended
+-- this frame stands at the front of the bytes
+pub record Comes (bytes : List ℕ) (f : Frame) : Type 0 where
+  pub is : said bytes ≡ frame (says f) (moved (said bytes))
+  pub room : brings (says f) ≤ 80 * moved (said bytes)
+  pub short : length (reason (says f)) ≤ 15
+  pub moves : 1 ≤ moved (said bytes)
+
+pub comes : (p : ℕ) (bytes : List ℕ) (o : Option Frame) (f : Frame) → o ≡ Some f → meant (Ok o) ≡ answer p (said bytes) → Comes bytes f
+comes p bytes o f some told =
+    let e = of_frame p (said bytes) (says f) (ap (λ o. meant (Ok o)) (sym some) ∙ told) in
+    let fine = subst Modest e (modest bytes) in
+    record { is = e; room = fine.0; short = fine.1; moves = fine.2 }
+
+-- the run ends at these bytes, and this line is printed last, if one is told
+pub record Ends (bytes : List ℕ) (last : Option Line) : Type 0 where
+  pub stops : interrupts (said bytes) ≡ true
+  pub room : takes last ≤ 80 * length bytes
+  pub script_is : (ss : List Said) (rs : List Outcome) → script None (said bytes ∷ ss) rs ≡ before [] (told last) done
+
+of_end : (p : ℕ) (s : Said) → Ok None ≡ answer p s → s ≡ ended
 of_end p ended e = refl
-of_end p (frame m k) e = let z : ◌≡◌ {A = ℕ} 0 1 = cc in absurd (omega arith)
-of_end p cut_short e = let z : ◌≡◌ {A = ℕ} 0 1 = cc in absurd (omega arith)
-of_end p unknown e = let z : ◌≡◌ {A = ℕ} 0 1 = cc in absurd (omega arith)
+of_end p s e = cc
 
--- a frame that is refused ends the script
-pub record Ends (s : Said) (e : Refusal) : Type 0 where
-  pub stops : interrupts s ≡ true
-  pub goes : s ≡ ended → ⊥
-  pub script_is : (ss : List Said) (rs : List Answer) → script None (s ∷ ss) rs ≡ before [] (text (Refused (number e))) (script None [] rs)
-
-pub of_refusal : (p : ℕ) (s : Said) (e : Refusal) → Err e ≡ answer p s → Ends s e
+-- the bytes are at their end
+pub at_end : (p : ℕ) (bytes : List ℕ) (o : Option Frame) → o ≡ None → meant (Ok o) ≡ answer p (said bytes) → Ends bytes None
 unfolding script
-of_refusal p ended e h = let z : ◌≡◌ {A = ℕ} 0 1 = cc in absurd (omega arith)
-of_refusal p (frame m k) e h = let z : ◌≡◌ {A = ℕ} 0 1 = cc in absurd (omega arith)
+at_end p bytes o none told =
+    let e = of_end p (said bytes) (ap (λ o. meant (Ok o)) (sym none) ∙ told) in
+    record { stops = ap interrupts e; room = omega arith; script_is = λ ss rs. ap (λ s. script None (s ∷ ss) rs) e }
+
+of_refusal : (p : ℕ) (s : Said) (e : Refusal) → Err e ≡ answer p s
+    → (interrupts s ≡ true) × ((ss : List Said) (rs : List Outcome) → script None (s ∷ ss) rs ≡ before [] (text (Refused (number e))) done)
+unfolding script
+of_refusal p ended e h = absurd (cc)
+of_refusal p (frame m k) e h = absurd (cc)
 of_refusal p cut_short e h =
     let gone : e ≡ FrameCutShort p = cc in
     let same : number e ≡ 11 = ap number gone in
-    record { stops = refl; goes = λ f. (let z : ◌≡◌ {A = ℕ} 0 1 = cc in omega arith); script_is = λ ss rs. ap (λ n. before [] (text (Refused n)) done) (sym same) }
+    (refl, λ ss rs. ap (λ n. before [] (text (Refused n)) done) (sym same))
 of_refusal p unknown e h =
     let gone : e ≡ FrameUnknown p = cc in
     let same : number e ≡ 12 = ap number gone in
-    record { stops = refl; goes = λ f. (let z : ◌≡◌ {A = ℕ} 0 1 = cc in omega arith); script_is = λ ss rs. ap (λ n. before [] (text (Refused n)) done) (sym same) }
+    (refl, λ ss rs. ap (λ n. before [] (text (Refused n)) done) (sym same))
 
-some : (bytes : List ℕ) → (said bytes ≡ ended → ⊥) → 0 < length bytes
-some [] h = absurd (h refl)
-some (b ∷ bytes) h = omega arith
+some_left : (p : ℕ) (bytes : List ℕ) (e : Refusal) → Err e ≡ answer p (said bytes) → 1 ≤ length bytes
+some_left p [] e h = absurd (cc)
+some_left p (b ∷ bytes) e h = omega arith
 
-pub some_left : (tape : List ℕ) (p : ℕ) → (said (drop p tape) ≡ ended → ⊥) → p < length tape
-some_left tape p h = omega (arith, some (drop p tape) h, length-drop p tape)
+-- a frame is refused
+pub at_refusal : (p : ℕ) (bytes : List ℕ) (e : Refusal) → Err e ≡ answer p (said bytes) → Ends bytes (Some (Refused (number e)))
+at_refusal p bytes e h =
+    let t = of_refusal p (said bytes) e h in
+    record { stops = t.0; room = omega (arith, some_left p bytes e h); script_is = t.1 }
+
+-- a frame that is neither a reading nor an abort interrupts
+pub stops : (f : Frame) → ((x : ℤ) → f ≡ read.Reading x → ⊥) → ((why : Bor (List ℕ)) → f ≡ read.Abort why → ⊥) → (k : ℕ) → interrupts (frame (says f) k) ≡ true
+stops (read.Reading x) no_reading no_abort k = absurd (no_reading x refl)
+stops (read.Abort why) no_reading no_abort k = absurd (no_abort why refl)
+stops f no_reading no_abort k = refl

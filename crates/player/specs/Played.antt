@@ -7,7 +7,7 @@ use Rattle.stage.specs.Chains.{chained}
 use Rattle.step.specs.Ends as step
 use Rattle.bounded.specs.Ends as bounded
 use Rattle.book.specs.declared.call.Call.{Call}
-use Rattle.book.specs.declared.answer.Answer.{Answer}
+use Rattle.book.specs.Rows.{Outcome}
 use Rattle.book.specs.Book.{Book}
 use Rattle.channel.specs.Runs.{Whole}
 use Rattle.player.specs.Sayings.{sayings}
@@ -25,7 +25,7 @@ room tape = 80 * length (read tape)
 -- script has for these answers
 pub record Printout (m : Meaning) (n : ℕ) (tape : List ℕ) (text : List ℕ) : Type 0 where
   pub calls : List Call
-  pub answers : List Answer
+  pub answers : List Outcome
   pub end : Book
   pub whole : Whole m n calls answers end
   pub script_is : script None (sayings 0 (read tape)) answers ≡ record { calls = calls; text = text }

@@ -1,27 +1,47 @@
-ghost use Rattle.std.specs.Prelude.{◌≡◌, [], None, Ok};
+#![tactic(auto, using(crate::proofs::Making::lines))]
+
+ghost use Rattle.std.specs.Prelude.{◌≡◌, ◌+◌, ◌≤◌, [], None};
 ghost use Rattle.book.specs.declared.call.Call.TheVariants as call;
-ghost use Rattle.register.specs.Page.{page};
+ghost use Rattle.frames.specs.Answers.{meaning as says};
 ghost use Rattle.printout.specs.Text.{reason_of};
-ghost use Rattle.channel.specs.Told.{of_verdict};
-ghost use Rattle.player.specs.Lines.{telling};
-ghost use Rattle.player.specs.Steps.{Made};
+ghost use Rattle.player.specs.Script.{asked};
+ghost use Rattle.player.specs.Steps.{Made, Asked, owed, brings};
 
 use crate::refusing::refused;
 use channel::channel::Channel;
 use channel::point::Point;
+use frames::frame::Frame;
 use printout::line::Line;
 use questions::verdict::Verdict;
+use refusal::refusal::Refusal;
 use stage::stage::Stage;
 
-// The point that is opened at an argument, if it is, and the line of that.
-pub(crate) fn load<'a, S: Stage>(
+// Deals with a frame where no point is open: the point that it opens, if it does, and its line. A reading or an abort is refused.
+pub(crate) fn ask<'a, S: Stage>(
     channel: &mut Channel<S>,
-    argument: i32,
+    frame: Frame<'a>,
 ) -> (Option<Point>, Line<'a>)
-    ensures number { channel.new.number ≡ channel.old.number }
-    ensures stage { channel.new.stage ≡ channel.old.stage }
-    ensures made { Made (S.meaning channel.old.stage) channel.old.number (page channel.old.register) (call.Open argument) [] (page channel.new.register) result.0 result.1 }
+    ensures asked { Asked S.meaning channel.old (asked None (says frame.entry)) channel.new result.0 result.1 }
+    ensures room { 80 + owed result.0 ≤ brings (says frame.entry) }
     ensures reason { reason_of result.1 ≡ [] }
+{
+    match frame {
+        Frame::Load { argument } => load(channel, argument),
+        Frame::Reading { .. } | Frame::Abort { .. } => (None, refused(Refusal::NoOpenPoint)),
+        Frame::Withdraw { serial } => (None, withdraw(channel, serial)),
+        Frame::Verdict => (None, verdict(channel)),
+        Frame::Slope => (None, slope(channel)),
+        Frame::Value { argument } => (None, value(channel, argument)),
+        Frame::Tallies => (None, tally(channel)),
+        Frame::Clear => (None, clear(channel)),
+    }
+}
+
+// From here on one call each, and the line of what it is told, or of its refusal: `Made` is what their contracts share.
+
+// The point that is opened at an argument, if it is, and the line of that.
+fn load<'a, S: Stage>(channel: &mut Channel<S>, argument: i32) -> (Option<Point>, Line<'a>)
+    ensures { Made S.meaning channel.old (call.Open argument) [] channel.new result.0 result.1 }
 {
     match channel.open(argument) {
         Ok(point) => {
@@ -33,11 +53,8 @@ pub(crate) fn load<'a, S: Stage>(
 }
 
 // The line of a withdrawal.
-pub(crate) fn withdraw<'a, S: Stage>(channel: &mut Channel<S>, serial: u32) -> Line<'a>
-    ensures number { channel.new.number ≡ channel.old.number }
-    ensures stage { channel.new.stage ≡ channel.old.stage }
-    ensures made { Made (S.meaning channel.old.stage) channel.old.number (page channel.old.register) (call.Withdraw serial) [] (page channel.new.register) None result }
-    ensures reason { reason_of result ≡ [] }
+fn withdraw<'a, S: Stage>(channel: &mut Channel<S>, serial: u32) -> Line<'a>
+    ensures { Made S.meaning channel.old (call.Withdraw serial) [] channel.new None result }
 {
     match channel.withdraw(serial) {
         Ok(serial) => Line::Withdrawn { serial },
@@ -46,71 +63,55 @@ pub(crate) fn withdraw<'a, S: Stage>(channel: &mut Channel<S>, serial: u32) -> L
 }
 
 // The line of a clearing.
-pub(crate) fn clear<'a, S: Stage>(channel: &mut Channel<S>) -> Line<'a>
-    ensures number { channel.new.number ≡ channel.old.number }
-    ensures stage { channel.new.stage ≡ channel.old.stage }
-    ensures made { Made (S.meaning channel.old.stage) channel.old.number (page channel.old.register) call.Clear [] (page channel.new.register) None result }
-    ensures reason { reason_of result ≡ [] }
+fn clear<'a, S: Stage>(channel: &mut Channel<S>) -> Line<'a>
+    ensures { Made S.meaning channel.old call.Clear [] channel.new None result }
 {
     channel.clear();
     Line::Cleared
 }
 
 // The line of the tallies.
-pub(crate) fn tally<'a, S: Stage>(channel: &Channel<S>) -> Line<'a>
-    ensures made { Made (S.meaning channel.now.stage) channel.now.number (page channel.now.register) call.Tallies [] (page channel.now.register) None result }
-    ensures reason { reason_of result ≡ [] }
+fn tally<'a, S: Stage>(channel: &Channel<S>) -> Line<'a>
+    ensures { Made S.meaning channel.now call.Tallies [] channel.now None result }
 {
     let tallies = channel.tallies();
     Line::Tallies {
-        opened: tallies.opened,
-        filed: tallies.filed,
-        spoiled: tallies.spoiled,
-        aborted: tallies.aborted,
+        opened: tallies.counts.opened,
+        filed: tallies.counts.filed,
+        spoiled: tallies.counts.spoiled,
+        aborted: tallies.counts.aborted,
         open: tallies.open,
         held: tallies.held,
     }
 }
 
-// The line of a verdict that was told.
-fn judged<'a>(verdict: Verdict) -> Line<'a>
-    ensures { result ≡ telling call.Verdict [] (of_verdict (Ok verdict)) }
-{
-    match verdict {
-        Verdict::Line => Line::Possible,
-        Verdict::Conflict { conflict } => Line::Conflicting { conflict },
-    }
-}
-
 // The line of the verdict.
-pub(crate) fn verdict<'a, S: Stage>(channel: &Channel<S>) -> Line<'a>
-    ensures made { Made (S.meaning channel.now.stage) channel.now.number (page channel.now.register) call.Verdict [] (page channel.now.register) None result }
-    ensures reason { reason_of result ≡ [] }
+fn verdict<'a, S: Stage>(channel: &Channel<S>) -> Line<'a>
+    ensures { Made S.meaning channel.now call.Verdict [] channel.now None result }
 {
     match channel.verdict() {
-        Ok(verdict) => judged(verdict),
+        Ok(Verdict::Line) => Line::Possible,
+        Ok(Verdict::Conflict { conflict }) => Line::Conflicting { conflict },
         Err(refusal) => refused(refusal),
     }
 }
 
 // The line of the least and the greatest slope.
-pub(crate) fn slope<'a, S: Stage>(channel: &Channel<S>) -> Line<'a>
-    ensures made { Made (S.meaning channel.now.stage) channel.now.number (page channel.now.register) call.Slope [] (page channel.now.register) None result }
-    ensures reason { reason_of result ≡ [] }
+fn slope<'a, S: Stage>(channel: &Channel<S>) -> Line<'a>
+    ensures { Made S.meaning channel.now call.Slope [] channel.now None result }
 {
     match channel.slope() {
-        Ok(bounds) => Line::slope(bounds.0, bounds.1),
+        Ok((least, greatest)) => Line::slope(least, greatest),
         Err(refusal) => refused(refusal),
     }
 }
 
 // The line of the least and the greatest value at an argument.
-pub(crate) fn value<'a, S: Stage>(channel: &Channel<S>, argument: i32) -> Line<'a>
-    ensures made { Made (S.meaning channel.now.stage) channel.now.number (page channel.now.register) (call.Value argument) [] (page channel.now.register) None result }
-    ensures reason { reason_of result ≡ [] }
+fn value<'a, S: Stage>(channel: &Channel<S>, argument: i32) -> Line<'a>
+    ensures { Made S.meaning channel.now (call.Value argument) [] channel.now None result }
 {
     match channel.value(argument) {
-        Ok(bounds) => Line::value(bounds.0, bounds.1),
+        Ok((least, greatest)) => Line::value(least, greatest),
         Err(refusal) => refused(refusal),
     }
 }

@@ -1,7 +1,7 @@
-ghost use Rattle.std.specs.Prelude.{◌≡◌, ◌≤◌, [], length, None};
+#![tactic(auto, using(crate::proofs::Making::lines))]
+
+ghost use Rattle.std.specs.Prelude.{[], None};
 ghost use Rattle.book.specs.declared.call.Call.TheVariants as call;
-ghost use Rattle.register.specs.Page.{page};
-ghost use Rattle.printout.specs.Text.{reason_of};
 ghost use Rattle.player.specs.Steps.{Made};
 
 use crate::refusing::{refused, unfiled};
@@ -10,12 +10,9 @@ use channel::point::Point;
 use printout::line::Line;
 use stage::stage::Stage;
 
-// The line of a point that a reading ends.
+// Ends a point by a reading: the line of its set, or of why it is not filed.
 pub(crate) fn file<'a, S: Stage>(channel: &mut Channel<S>, point: Point, reading: i32) -> Line<'a>
-    ensures number { channel.new.number ≡ channel.old.number }
-    ensures stage { channel.new.stage ≡ channel.old.stage }
-    ensures made { Made (S.meaning channel.old.stage) channel.old.number (page channel.old.register) (call.File point.number point.serial reading) [] (page channel.new.register) None result }
-    ensures reason { reason_of result ≡ [] }
+    ensures { Made S.meaning channel.old (call.File point.number point.serial reading) [] channel.new None result }
 {
     let serial = point.serial();
     match channel.file(point, reading) {
@@ -28,21 +25,23 @@ pub(crate) fn file<'a, S: Stage>(channel: &mut Channel<S>, point: Point, reading
     }
 }
 
-// The line of a point that is aborted, for a reason.
+// Ends a point without a reading, for a reason: the line of that, or of its refusal.
 pub(crate) fn abort<'a, S: Stage>(
     channel: &mut Channel<S>,
     point: Point,
     reason: &'a [u8],
 ) -> Line<'a>
-    requires { length reason.now ≤ 15 }
-    ensures number { channel.new.number ≡ channel.old.number }
-    ensures stage { channel.new.stage ≡ channel.old.stage }
-    ensures made { Made (S.meaning channel.old.stage) channel.old.number (page channel.old.register) (call.Abort point.number point.serial) reason.now (page channel.new.register) None result }
-    ensures reason { length (reason_of result) ≤ 15 }
+    ensures { Made S.meaning channel.old (call.Abort point.number point.serial) reason.now channel.new None result }
 {
-    let serial = match channel.abort(point) {
-        Ok(serial) => serial,
-        Err(refusal) => return refused(refusal),
-    };
-    Line::Aborted { serial, reason }
+    match channel.abort(point) {
+        Ok(serial) => Line::Aborted { serial, reason },
+        Err(refusal) => refused(refusal),
+    }
+}
+
+// The line of a point that something else interrupts: it is aborted, for an empty reason.
+pub(crate) fn interrupt<'a, S: Stage>(channel: &mut Channel<S>, point: Point) -> Line<'a>
+    ensures { Made S.meaning channel.old (call.Abort point.number point.serial) [] channel.new None result }
+{
+    abort(channel, point, b"")
 }

@@ -1,12 +1,11 @@
 ghost use Rattle.std.specs.Prelude.{◌≡◌};
 ghost use Rattle.player.specs.Played.{Played, bench};
 
-use crate::printing::put_line;
+use crate::printing::{put_line, put_told};
 use crate::refusing::refused;
-use crate::turn::{interrupt, turn};
+use crate::turn::{close, turn};
 use bounded::bounded::Bounded;
 use channel::channel::Channel;
-use channel::point::Point;
 use frames::reader::Reader;
 use refusal::refusal::Refusal;
 use stage::chain::Chain;
@@ -14,7 +13,8 @@ use stage::stage::Stage;
 use standard::standard_chain;
 use step::step::Step;
 
-// Plays a tape on a new channel of that number, on a stage or chain. The printout goes to the front of the buffer: how many bytes it has.
+// Plays a tape on a new channel of that number, on a stage or chain. The printout goes to the front of the buffer: how many bytes it has,
+// or a refusal where the buffer has not 80 bytes for each byte of the tape, at most 4,096 of them.
 pub fn play_on<S: Stage + Drop>(
     number: u16,
     stage: S,
@@ -28,27 +28,28 @@ pub fn play_on<S: Stage + Drop>(
     }
     let mut reader = Reader::new(tape);
     let mut channel = Channel::new(number, stage);
-    let mut pending: Option<Point> = None;
+    let mut pending = None;
+    // The place in the buffer is a number beside it: a buffer and a place in one struct would need its length kept by every method.
     let mut at = 0;
-    loop {
-        let frame = match reader.next() {
-            Ok(frame) => frame,
-            Err(refusal) => {
-                at = interrupt(&mut channel, pending, out, at);
-                let line = refused(refusal);
-                return Ok(put_line(&line, out, at));
+    let last = loop {
+        // A frame, the tape's end, or a frame that is refused, whose line is told last: `let .. else` would part only two of these.
+        match reader.next() {
+            Ok(Some(frame)) => {
+                let (point, aborted, line) = turn(&mut channel, pending, frame);
+                pending = point;
+                at = put_told(&aborted, out, at);
+                at = put_line(&line, out, at);
             }
-        };
-        let Some(frame) = frame else {
-            return Ok(interrupt(&mut channel, pending, out, at));
-        };
-        let (point, place) = turn(&mut channel, pending, frame, out, at);
-        pending = point;
-        at = place;
-    }
+            Ok(None) => break None,
+            Err(refusal) => break Some(refused(refusal)),
+        }
+    };
+    let interrupted = close(&mut channel, pending);
+    at = put_told(&interrupted, out, at);
+    Ok(put_told(&last, out, at))
 }
 
-// Plays a tape on the chain of the bench.
+// Plays a tape on channel 0, on the chain of the bench: the same answers.
 pub fn play(tape: &[u8], out: &mut [u8]) -> Result<usize, Refusal>
     ensures { Played bench 0 tape.now out.old out.new result }
 {

@@ -22,7 +22,7 @@ pub(crate) fn unfiled<'a>(serial: u32, refusal: Refusal) -> Line<'a>
     match refusal {
         Refusal::ReadingNotTaken { place, value } => Line::Spoiled {
             serial,
-            number: 5,
+            number: refusal.number(),
             place,
             value,
         },

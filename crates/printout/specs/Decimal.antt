@@ -1,20 +1,7 @@
--- Numbers in decimal.
-use Rattle.std.specs.Prelude.{◌≡◌, ℕ, zero, suc, ◌+◌, ◌-◌, ◌*◌, ◌/◌, ◌%◌, ◌^◌, ◌<◌, true, cond, List, [], ◌∷◌, ◌++◌, ℤ, pos, negsuc, nat_lt, slice_index}
+-- Numbers in decimal, as the library writes them.
+use Rattle.std.specs.Prelude.{◌≡◌, ℕ, ◌+◌, ◌-◌, ◌*◌, ◌^◌, ◌<◌, true, List, [], ◌∷◌, slice_index}
 use Rattle.std.specs.Str.{all_ascii_digits}
-
--- the digits of a number that has at most k of them: those of its tenth, and then its last one
-unfoldable pub digits : ℕ → ℕ → List ℕ
-digits zero n = []
-digits (suc k) n = cond (nat_lt n 10) ((48 + n) ∷ []) (digits k (n / 10) ++ ((48 + n % 10) ∷ []))
-
--- a number of 64 bits has at most 20 digits
-unfoldable pub decimal : ℕ → List ℕ
-decimal n = digits 20 n
-
--- with `-` before a negative number
-abbrev pub signed : ℤ → List ℕ
-signed (pos n) = decimal n
-signed (negsuc n) = 45 ∷ decimal (suc n)
+use Rattle.std.specs.Fmt.{decimal}
 
 -- the number that digits write, after n
 abbrev pub read_on : ℕ → List ℕ → ℕ

@@ -34,18 +34,8 @@ text line = body line ++ (10 ∷ [])
 
 -- the reason of an abort
 abbrev pub reason_of : Line → List ℕ
-reason_of (Load serial argument) = []
-reason_of (Set serial lower upper) = []
-reason_of (Spoiled serial number place value) = []
 reason_of (Aborted serial reason) = reason.now
-reason_of (Withdrawn serial) = []
-reason_of Possible = []
-reason_of (Conflicting conflict) = []
-reason_of (Slope least greatest) = []
-reason_of (Value least greatest) = []
-reason_of (Tallies opened filed spoiled aborted open' held) = []
-reason_of Cleared = []
-reason_of (Refused number) = []
+reason_of line = []
 
 -- a line is not written into a buffer under 80 bytes, nor with a reason over 15
 abbrev pub refused : Line → List ℕ → Bool

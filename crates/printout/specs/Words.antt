@@ -1,15 +1,11 @@
--- The parts of a line, and a buffer that is written over.
-use Rattle.std.specs.Prelude.{ℕ, ◌+◌, cond, ◌&&◌, List, [], ◌∷◌, ◌++◌, map, length, take, drop, ℤ, nat_le}
-use Rattle.printout.specs.Decimal.{signed}
-
--- the buffer with these bytes in it from a place on
-abbrev pub over : ℕ → List ℕ → List ℕ → List ℕ
-over at bytes buffer = take at buffer ++ (bytes ++ drop (at + length bytes) buffer)
+-- The parts of a line.
+use Rattle.std.specs.Prelude.{ℕ, cond, ◌&&◌, List, [], ◌∷◌, map, ℤ, nat_le}
+use Rattle.std.specs.List.{flat_map}
+use Rattle.std.specs.Fmt.{signed_decimal}
 
 -- each number after a blank
 abbrev pub fields : List ℤ → List ℕ
-fields [] = []
-fields (n ∷ ns) = 32 ∷ (signed n ++ fields ns)
+fields = flat_map (λ n. 32 ∷ signed_decimal n)
 
 -- a byte as it is printed: from 32 to 126 as it is, any other as `?`
 abbrev pub shown : ℕ → ℕ

@@ -4,4 +4,4 @@
 pub mod bounds;
 pub mod line;
 pub mod printing;
-mod put;
+mod wording;

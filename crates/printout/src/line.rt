@@ -1,6 +1,7 @@
 use refusal::conflict::Conflict;
 
-// What a line of the printout tells.
+// What a line of the printout tells. A refusal's number stays a `u8`: every number has a line, and there
+// are but fourteen refusals.
 #[derive(Clone, Copy)]
 pub enum Line<'a> {
     // A point was opened.
@@ -46,7 +47,7 @@ pub enum Line<'a> {
         least: i64,
         greatest: i64,
     },
-    // How many points were opened, filed, spoiled and aborted, and how many are open and held.
+    // How many points were opened, filed, spoiled and aborted, and how many are open and held. Each by itself: a printout knows no book.
     Tallies {
         opened: u32,
         filed: u32,

@@ -1,60 +1,49 @@
 ghost use Rattle.std.specs.Prelude.{◌≡◌, ◌<◌, ◌≤◌, ◌++◌, length, drop, IfOk, if◌then◌else◌, Ok, Err};
 ghost use Rattle.refusal.specs.declared.refusal.Refusal.TheVariants.{LineNotWritten};
 ghost use Rattle.printout.specs.Decimal.{ReadsBack};
-ghost use Rattle.printout.specs.Words.{over};
 ghost use Rattle.printout.specs.Text.{text, body, reason_of, refused};
 
 use crate::line::Line;
-use crate::put::{put_aborted, put_byte, put_words};
+use crate::wording::{ROOM, Text};
 use refusal::refusal::Refusal;
 
 // All of a line but its last byte.
-fn put_body(buffer: &mut [u8], line: &Line) -> usize
-    requires { (80 ≤ length buffer.old) × (length (reason_of line.now) ≤ 15) }
-    ensures place { result ≡ length (body line.now) }
-    ensures bytes { buffer.new ≡ over 0 (body line.now) buffer.old }
-    ensures room { result < 80 }
+fn body(line: &Line) -> Text
+    requires { length (reason_of line.now) ≤ 15 }
+    ensures text { result ≡ body line.now }
+    ensures room { length result < ROOM }
 {
     match *line {
-        Line::Load { serial, argument } => put_words(
-            buffer,
-            b"load",
-            &[serial as i64, argument as i64],
-        ),
+        Line::Load { serial, argument } => Text::new("load").number(serial).number(argument),
         Line::Set {
             serial,
             lower,
             upper,
-        } => put_words(buffer, b"set", &[serial as i64, lower as i64, upper as i64]),
+        } => Text::new("set").number(serial).number(lower).number(upper),
         Line::Spoiled {
             serial,
             number,
             place,
             value,
-        } => {
-            put_words(
-                buffer,
-                b"spoiled",
-                &[serial as i64, number as i64, place as i64, value as i64],
-            )
+        } => Text::new("spoiled")
+            .number(serial)
+            .number(number)
+            .number(place)
+            .number(value),
+        Line::Aborted { serial, reason } => Text::new("aborted").number(serial).remark(reason),
+        Line::Withdrawn { serial } => Text::new("withdrawn").number(serial),
+        Line::Possible => Text::new("line"),
+        Line::Conflicting { conflict } => {
+            let two = Text::new("conflict")
+                .number(conflict.first)
+                .number(conflict.second);
+            match conflict.third {
+                None => two,
+                Some(third) => two.number(third),
+            }
         }
-        Line::Aborted { serial, reason } => put_aborted(buffer, serial, reason),
-        Line::Withdrawn { serial } => put_words(buffer, b"withdrawn", &[serial as i64]),
-        Line::Possible => put_words(buffer, b"line", &[]),
-        Line::Conflicting { conflict } => match conflict.third {
-            None => put_words(
-                buffer,
-                b"conflict",
-                &[conflict.first as i64, conflict.second as i64],
-            ),
-            Some(third) => put_words(
-                buffer,
-                b"conflict",
-                &[conflict.first as i64, conflict.second as i64, third as i64],
-            ),
-        },
-        Line::Slope { least, greatest } => put_words(buffer, b"slope", &[least, greatest]),
-        Line::Value { least, greatest } => put_words(buffer, b"value", &[least, greatest]),
+        Line::Slope { least, greatest } => Text::new("slope").number(least).number(greatest),
+        Line::Value { least, greatest } => Text::new("value").number(least).number(greatest),
         Line::Tallies {
             opened,
             filed,
@@ -62,22 +51,15 @@ fn put_body(buffer: &mut [u8], line: &Line) -> usize
             aborted,
             open,
             held,
-        } => {
-            put_words(
-                buffer,
-                b"tallies",
-                &[
-                    opened as i64,
-                    filed as i64,
-                    spoiled as i64,
-                    aborted as i64,
-                    open as i64,
-                    held as i64,
-                ],
-            )
-        }
-        Line::Cleared => put_words(buffer, b"cleared", &[]),
-        Line::Refused { number } => put_words(buffer, b"refused", &[number as i64]),
+        } => Text::new("tallies")
+            .number(opened)
+            .number(filed)
+            .number(spoiled)
+            .number(aborted)
+            .number(open)
+            .number(held),
+        Line::Cleared => Text::new("cleared"),
+        Line::Refused { number } => Text::new("refused").number(number),
     }
 }
 
@@ -88,8 +70,6 @@ pub fn print(line: &Line, buffer: &mut [u8]) -> Result<usize, Refusal>
     ensures room { IfOk result (λ n. n ≤ 80) }
     ensures numbers { ReadsBack }
 {
-    // The bytes that a buffer has at least.
-    const ROOM: usize = 80;
     // The bytes that a reason has at most.
     const LONGEST: usize = 15;
     if buffer.len() < ROOM {
@@ -100,6 +80,7 @@ pub fn print(line: &Line, buffer: &mut [u8]) -> Result<usize, Refusal>
             return Err(Refusal::LineNotWritten);
         }
     }
-    let end = put_body(buffer, line);
-    Ok(put_byte(buffer, end, b'\n'))
+    let text = body(line).ended();
+    buffer[..text.len()].copy_from_slice(text.as_bytes());
+    Ok(text.len())
 }

@@ -11,6 +11,9 @@ use Rattle.places.specs.Samples.{measured}
 use Rattle.questions.specs.Told.{NamedBy, Named}
 use Rattle.questions.specs.Naming.{InOrder, Same, NamesTwo, NamesThree}
 
+serial : {u v : Sample} → u ≡ v → u.serial ≡ v.serial
+serial e = ap (λ (s : Sample). s.serial) e
+
 -- what is some of a part is some of the whole
 some_trans : (s t u : List Measurement) → All (Has s) t → All (Has t) u → All (Has s) u
 some_trans s t u p q = All-weaker (Has t) (Has s) (λ m at. all-has (Has s) t m p at) u q
@@ -48,9 +51,6 @@ same_two a b x y o = ⊎_elim
 pub names_two : (a b x y : Sample) → InOrder a b x y → NamesTwo (measured a) (measured b) (record { first = x.serial; second = y.serial; third = None })
 names_two a b x y o = record
     { x = measured x; y = measured y; same = same_two a b x y o; first = refl; second = refl; order = o.order; third = refl }
-
-serial : {u v : Sample} → u ≡ v → u.serial ≡ v.serial
-serial e = ap (λ (s : Sample). s.serial) e
 
 -- three are in order after three exchanges
 module _ (a b c low high middle last first second : Sample) (p : InOrder a b low high) (q : InOrder high c middle last) (r : InOrder low middle first second) where

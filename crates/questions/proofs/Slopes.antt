@@ -2,10 +2,10 @@
 use Rattle.std.proofs.Common.{◌≡◌, Bool, true, false, List, [], ◌∷◌, sym}
 use Rattle.std.specs.List.{ContainsAt as Has, AllByRecursion as All}
 use Rattle.std.proofs.ByRecursion.{all-has, All-weaker}
-use Rattle.algebra.proofs.Ring.{test_le, test_gt}
-use Rattle.rational.specs.Rational.{◌≺◌}
-use Rattle.rational.proofs.Order.{≼_trans, ≺-≼-trans, ≼-≺-trans}
-use Rattle.exact.specs.Quantity.{quantity, at_most}
+use Rattle.std.specs.Ordering.{is_le}
+use Rattle.rational.specs.Rational.{◌≺◌, compare}
+use Rattle.rational.proofs.Order.{tested, failed, ≼_trans, ≺-≼-trans, ≼-≺-trans}
+use Rattle.exact.specs.Quantity.{quantity}
 use Rattle.refusal.specs.declared.conflict.Conflict.{Conflict as Naming}
 use Rattle.lines.specs.Sheet.{Measurement, Consistent, Conflict}
 use Rattle.lines.specs.Slopes.{low_slope, high_slope, SteepestLow, GentlestHigh, PairsMeet}
@@ -40,12 +40,12 @@ module _ (s : List Measurement) (low high : Candidate) (l : LowBound Slope s low
 
   -- the test of the two bounds
   abbrev test : Bool
-  test = at_most (quantity low.bound) (quantity high.bound)
+  test = is_le (compare (quantity low.bound) (quantity high.bound))
 
   above : false ≡ test → quantity high.bound ≺ quantity low.bound
-  above e = test_gt (sym e)
+  above e = failed (quantity low.bound) (quantity high.bound) (sym e)
 
-  pub over : false ≡ test → high_of_pair Slope high.pair ≺ low_of_pair Slope low.pair
+  over : false ≡ test → high_of_pair Slope high.pair ≺ low_of_pair Slope low.pair
   over e =
       ≼-≺-trans (high_of_pair Slope high.pair) (quantity high.bound) (low_of_pair Slope low.pair) (written_over high.bound _ h.writes)
       (≺-≼-trans (quantity high.bound) (quantity low.bound) (low_of_pair Slope low.pair) (above e) (written_under low.bound _ l.writes))
@@ -55,7 +55,7 @@ module _ (s : List Measurement) (low high : Candidate) (l : LowBound Slope s low
     slopes_line e =
         consistent_steep s meet _ _ _ _ steepest gentlest
         (≼_trans (low_of_pair Slope low.pair) (quantity low.bound) (high_of_pair Slope high.pair) (written_over low.bound _ l.writes)
-        (≼_trans (quantity low.bound) (quantity high.bound) (high_of_pair Slope high.pair) (test_le (sym e)) (written_under high.bound _ h.writes)))
+        (≼_trans (quantity low.bound) (quantity high.bound) (high_of_pair Slope high.pair) (tested (quantity low.bound) (quantity high.bound) (sym e)) (written_under high.bound _ h.writes)))
 
     pub slopes_named : (r : Naming) → false ≡ test → Broken (four low.pair high.pair) r → Conflict s × Named s r
     slopes_named r e b =

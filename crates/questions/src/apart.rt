@@ -7,7 +7,7 @@ ghost use Rattle.questions.specs.Told.{Named};
 ghost use Rattle.questions.specs.Naming.{LiesAbove};
 
 use crate::naming::two;
-use places::place::Places;
+use places::places::Places;
 use places::sample::Sample;
 use refusal::conflict::Conflict;
 

@@ -9,10 +9,11 @@ use exact::argument::Argument;
 use exact::fraction::Fraction;
 use pairs::narrowest::narrowest;
 use pairs::quantity::Quantity;
-use places::place::Places;
+use places::places::Places;
 use refusal::refusal::Refusal;
 
 // Whether one line meets all that is held, or which measurements conflict.
+#[tactic(auto, using(lines::proofs::Threes::two_and_three))]
 pub fn verdict(places: &Places) -> Result<Verdict, Refusal>
     ensures tells { TellsVerdict (held places.now.all) result }
     ensures shown { TwoAndThree }
@@ -37,13 +38,11 @@ pub fn slope(places: &Places) -> Result<(Fraction, Fraction), Refusal>
 pub fn value(places: &Places, argument: i32) -> Result<(Fraction, Fraction), Refusal>
     ensures { TellsValue (held places.now.all) argument result }
 {
-    let Some(argument) = Argument::new(argument) else {
-        return Err(Refusal::ArgumentOutOfLimits);
-    };
+    let argument = Argument::new(argument).ok_or(Refusal::ArgumentOutOfLimits)?;
     bounds(Quantity::Value { argument }, places)
 }
 
-// The least and the greatest of a quantity of the lines that meet all that is held.
+// The least and the greatest of a quantity of the lines that meet all that is held: a pair, which whoever asks takes apart at once.
 fn bounds(quantity: Quantity, places: &Places) -> Result<(Fraction, Fraction), Refusal>
     ensures { TellsBounds (quantity_of quantity) (held places.now.all) result }
 {

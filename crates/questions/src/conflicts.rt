@@ -3,10 +3,9 @@ ghost use Rattle.questions.specs.Naming.{Found};
 
 use crate::apart::apart;
 use crate::triples::broken;
-use exact::order::Order;
 use pairs::narrowest::narrowest;
 use pairs::quantity::Quantity;
-use places::place::Places;
+use places::places::Places;
 use refusal::conflict::Conflict;
 
 // Two measurements that no line meets, or three if no two are; none where one line meets all.
@@ -16,10 +15,8 @@ pub(crate) fn any_conflict(places: &Places) -> Option<Conflict>
     if let Some(pair) = apart(places) {
         return Some(pair);
     }
-    let Some(slopes) = narrowest(Quantity::Slope, places) else {
-        return None;
-    };
-    if slopes.least.bound.at_most(&slopes.greatest.bound) {
+    let slopes = narrowest(Quantity::Slope, places)?;
+    if slopes.least.bound <= slopes.greatest.bound {
         return None;
     }
     Some(broken(slopes.least.pair, slopes.greatest.pair))

@@ -1,14 +1,14 @@
 ghost use Rattle.lines.specs.Sheet.{Consistent, OneArgument};
 ghost use Rattle.places.specs.Held.{held};
 ghost use Rattle.pairs.specs.Low.{quantity_of};
-ghost use Rattle.questions.specs.Asked.{GreatestLower, Higher};
+ghost use Rattle.questions.specs.Asked.{GreatestLower};
 ghost use Rattle.questions.specs.Told.{SomeHeld, TellsBounds};
 
 use exact::argument::Argument;
 use exact::fraction::Fraction;
 use exact::order::greater;
 use pairs::quantity::Quantity;
-use places::place::Places;
+use places::places::Places;
 use refusal::refusal::Refusal;
 
 // The bounds where all that is held has one argument: of the value there, the greatest lower and the least upper end; of nothing else.
@@ -21,6 +21,7 @@ pub(crate) fn at_one_argument(
     requires one { OneArgument (held places.now.all) }
     ensures { TellsBounds (quantity_of quantity) (held places.now.all) result }
 {
+    // Here and below `let .. else` has the refusal beside what is missing: `ok_or` would say no more.
     let Quantity::Value { argument } = quantity else {
         return Err(Refusal::OneArgument);
     };
@@ -44,18 +45,8 @@ fn greatest_lower(argument: Argument, places: &Places) -> Option<i32>
             continue;
         };
         if sample.argument.value == argument.value {
-            best = Some(higher(best, sample.set.lower));
+            best = greater(best, Some(sample.set.lower));
         }
     }
     best
-}
-
-// The greater of a number and the best so far.
-fn higher(best: Option<i32>, number: i32) -> i32
-    ensures { Higher best number result }
-{
-    match best {
-        Some(old) => greater(number, old),
-        None => number,
-    }
 }

@@ -13,6 +13,7 @@ fn in_order(a: Sample, b: Sample) -> (Sample, Sample)
 }
 
 // Names two measurements.
+#[tactic(auto, using(crate::proofs::Serials::names_two))]
 pub(crate) fn two(a: Sample, b: Sample) -> Conflict
     ensures { NamesTwo (measured a) (measured b) result }
 {

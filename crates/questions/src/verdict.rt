@@ -1,6 +1,6 @@
 use refusal::conflict::Conflict;
 
-// Whether one line meets all that is held, or which measurements conflict.
+// Whether one line meets all that is held, or which measurements conflict. An Option of a conflict would leave the good answer without its word.
 #[derive(Clone, Copy)]
 pub enum Verdict {
     Line,

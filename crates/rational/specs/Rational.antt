@@ -1,5 +1,7 @@
 -- Rational numbers of any size, compared by multiplying across.
 use Rattle.std.specs.Prelude.{◌≡◌, ℤ, pos, ◌+ℤ◌, ◌*ℤ◌, neg_ℤ, ◌≤ℤ◌, ◌<ℤ◌}
+use Rattle.std.specs.declared.cmp.Ordering.{Ordering}
+use Rattle.std.specs.Ordering.{int_cmp}
 use Rattle.std.proofs.Common.{arith}
 use Rattle.std.proofs.lemmas.Int.{ints}
 use Rattle.algebra.proofs.Ring.{product_positive}
@@ -22,6 +24,10 @@ a ≺ b = (a.num *ℤ b.den) <ℤ (b.num *ℤ a.den)
 -- the same quantity
 abbrev pub ◌≈◌ : Rational → Rational → Type 0
 a ≈ b = a.num *ℤ b.den ≡ b.num *ℤ a.den
+
+-- how two compare
+abbrev pub compare : Rational → Rational → Ordering
+compare a b = int_cmp (a.num *ℤ b.den) (b.num *ℤ a.den)
 
 -- a whole number
 abbrev pub whole : ℤ → Rational

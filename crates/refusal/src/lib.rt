@@ -2,5 +2,4 @@
 #![tactic(auto)]
 
 pub mod conflict;
-pub mod numbers;
 pub mod refusal;

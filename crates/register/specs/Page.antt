@@ -12,4 +12,4 @@ spot (place.Open s x) = Open s x.value
 spot (place.Held s x r u) = Held s x.value r u.lower u.upper
 
 abbrev pub page : Register → Book
-page r = record { spots = map spot r.places.all; last = r.last; opened = r.opened; filed = r.filed; spoiled = r.spoiled; aborted = r.aborted }
+page r = record { spots = map spot r.places.all; last = r.last; counts = r.counts }

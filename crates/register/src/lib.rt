@@ -1,5 +1,4 @@
 // The register of a channel: its places, the serials and the tallies, kept as the bench book has them.
 #![tactic(auto)]
 
-pub mod calls;
 pub mod register;

@@ -4,6 +4,7 @@
 use bounded::bounded::Bounded;
 use refusal::refusal::Refusal;
 use stage::chain::Chain;
+use stage::not_taken::NotTaken;
 use stage::stage::Stage;
 use standard::standard_chain;
 use std::io;
@@ -15,26 +16,18 @@ fn show(rt: &impl Print, chain: &Chain<Step, Bounded>, line: &str) -> io::Result
     };
     match chain.ask(reading) {
         Ok((lower, upper)) => println!(rt; "{reading}: from {lower} to {upper}"),
-        Err(refusal) => {
-            let number = refusal.number();
-            match refusal {
-                Refusal::ReadingNotTaken { place, value } => println!(rt;
-                    "{reading}: refused {number} at place {place}, which was handed {value}"
-                ),
-                _ => println!(rt; "{reading}: refused {number}"),
-            }
+        Err(refused) => {
+            let NotTaken { place, value } = refused;
+            let number = Refusal::from(refused).number();
+            println!(rt; "{reading}: refused {number} at place {place}, which was handed {value}")
         }
     }
 }
 
-fn run(rt: &HostRuntime) -> anyhow::Result<()> {
+fn main(rt: HostRuntime) -> anyhow::Result<()> {
     let chain = standard_chain();
     for line in rt.lines(rt.alloc()) {
-        show(rt, &chain, line?.as_str())?;
+        show(&rt, &chain, line?.as_str())?;
     }
     Ok(())
-}
-
-fn main(rt: HostRuntime) -> anyhow::Result<()> {
-    run(&rt)
 }

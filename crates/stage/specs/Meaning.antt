@@ -1,7 +1,6 @@
 -- The meaning of a stage, and the facts that make it a sound one.
 use Rattle.std.specs.Prelude.{◌≡◌, ℕ, min, Bool, true, cond, ◌&&◌, ℤ, ◌≤ℤ◌, Ok, Err, Result, int_le}
-use Rattle.refusal.specs.declared.refusal.Refusal.{Refusal}
-use Rattle.refusal.specs.declared.refusal.Refusal.TheVariants.{ReadingNotTaken}
+use Rattle.stage.specs.declared.not_taken.NotTaken.{NotTaken}
 use Rattle.exact.specs.declared.set.UncertaintySet.{UncertaintySet}
 use Rattle.exact.specs.Limits.{least_end, greatest_end}
 
@@ -27,11 +26,11 @@ abbrev pub told : ℕ → ℕ
 told n = min n 255
 
 -- what a stage of this meaning answers to a reading
-abbrev pub answer : Meaning → ℤ → Result (ℤ × ℤ) Refusal
-answer m r = cond (m.taken r) (Ok (m.lower r, m.upper r)) (Err (ReadingNotTaken (told (m.place r)) (m.value r)))
+abbrev pub answer : Meaning → ℤ → Result (ℤ × ℤ) NotTaken
+answer m r = cond (m.taken r) (Ok (m.lower r, m.upper r)) (Err (record { place = told (m.place r); value = m.value r }))
 
 -- the ends of a set that was made, or the refusal
-abbrev pub ends : Result UncertaintySet Refusal → Result (ℤ × ℤ) Refusal
+abbrev pub ends : {E : Type 0} → Result UncertaintySet E → Result (ℤ × ℤ) E
 ends (Ok s) = Ok (s.lower, s.upper)
 ends (Err e) = Err e
 

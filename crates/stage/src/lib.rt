@@ -2,7 +2,8 @@
 #![tactic(auto)]
 
 pub mod chain;
-pub mod chained;
 pub mod measure;
+pub mod not_taken;
+pub mod out_of_limits;
 pub mod single;
 pub mod stage;

@@ -1,12 +1,12 @@
 ghost use Rattle.std.specs.Prelude.{◌≡◌};
 ghost use Rattle.stage.specs.Meaning.{answer, ends};
 
+use crate::not_taken::NotTaken;
 use crate::stage::Stage;
 use exact::set::UncertaintySet;
-use refusal::refusal::Refusal;
 
 // The uncertainty set of a reading, to be kept.
-pub fn measure<S: Stage>(stage: &S, reading: i32) -> Result<UncertaintySet, Refusal>
+pub fn measure<S: Stage>(stage: &S, reading: i32) -> Result<UncertaintySet, NotTaken>
     ensures { ends result ≡ answer (S.meaning stage.now) reading }
 {
     let (lower, upper) = stage.ask(reading)?;

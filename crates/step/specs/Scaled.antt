@@ -1,8 +1,8 @@
 -- The product of a step and a reading.
-use Rattle.std.specs.Prelude.{◌≡◌, ℕ, ◌≤◌, ℤ, pos, ◌*ℤ◌, neg_ℤ, ◌≤ℤ◌, FitsSigned}
-use Rattle.std.proofs.Common.{arith, to_z, of_z}
+use Rattle.std.specs.Prelude.{ℕ, ◌≤◌, ℤ, pos, ◌*ℤ◌, neg_ℤ, ◌≤ℤ◌, FitsSigned}
+use Rattle.std.proofs.Common.{arith}
 use Rattle.std.proofs.Math.IntN.{*ℤ_comm}
-use Rattle.std.specs.Int.{w32, w64}
+use Rattle.std.specs.Int.{w32}
 use Rattle.std.proofs.lemmas.Int.{ints}
 use Rattle.algebra.proofs.Ring.{linear, times_grows}
 use Rattle.exact.proofs.Products.{within}
@@ -11,12 +11,6 @@ use Rattle.step.specs.Ends.{greatest_step, lower_end, upper_end}
 -- the greatest magnitude of a product: 1,000 times 2^31
 pub scaled_within : (s : ℕ) (r : ℤ) → s ≤ greatest_step → FitsSigned w32 r → (neg_ℤ (pos 2147483648000) ≤ℤ (pos s *ℤ r)) × ((pos s *ℤ r) ≤ℤ pos 2147483648000)
 scaled_within s r few f = within (pos s) r (pos 1000) (pos 2147483648) (omega (arith, ints)) (omega (arith, ints)) (omega (arith, ints)) (omega (arith, ints))
-
-pub scaled_cast : (s : ℕ) (r : ℤ) → s ≤ greatest_step → FitsSigned w32 r → to_z w64 s *ℤ to_z w64 (of_z w64 (to_z w32 (of_z w32 r))) ≡ pos s *ℤ r
-scaled_cast s r few f =
-    let a : to_z w64 s ≡ pos s = omega (arith, ints) in
-    let b : to_z w64 (of_z w64 (to_z w32 (of_z w32 r))) ≡ r = omega (arith, ints) in
-    λ i. a i *ℤ b i
 
 rises : (s : ℕ) (a b : ℤ) → a ≤ℤ b → (pos s *ℤ a) ≤ℤ (pos s *ℤ b)
 rises s a b h = omega (arith, linear, times_grows (pos s) (omega (arith, linear)) h, *ℤ_comm (pos s) a, *ℤ_comm (pos s) b)

@@ -1,5 +1,4 @@
 // A display that shows whole steps.
 #![tactic(auto)]
 
-pub mod ends;
 pub mod step;

@@ -1,53 +1,61 @@
 // Plays a tape from standard input, or from the file that is named first, and writes its printout to standard output.
 #![tactic(auto)]
 
-ghost use Rattle.std.specs.Prelude.{◌≤◌, length, IfOk};
+ghost use Rattle.std.specs.Prelude.{◌≡◌, ◌≤◌, ◌*◌, length, take, Ok, OnOk, IfOk, IfSome};
+ghost use Rattle.player.specs.Played.{Played, bench};
+ghost use Rattle.tape.specs.Program.{WritesPrintout};
 
-use anyhow::anyhow;
 use player::play::play;
+use std::alloc::Global;
+use std::env;
+use std::fs::File;
 use std::io::{Read, Write};
 use std::process::ExitCode;
-use std::{env, fs};
 
-// How many bytes of a tape are read, and room for the printout of so many.
-const TAPE: usize = 4_096;
+// How many bytes of a tape are read.
+const TAPE: usize = 4096;
 
-const ROOM: usize = 327_680;
-
-// Reads from a source until it ends or the tape is full, and tells how many bytes there are.
-fn fill(source: &mut impl Read, tape: &mut [u8]) -> anyhow::Result<usize>
-    ensures { IfOk result (λ n. n ≤ length tape.old) }
+// Plays a tape into a buffer that has room for any printout. A match shows that no refusal comes, where `unwrap` would want a lemma.
+fn play_with_room(tape: &[u8], out: &mut [u8]) -> usize
+    requires { 80 * TAPE ≤ length out.old }
+    ensures { Played bench 0 tape.now out.old out.new (Ok result) }
 {
-    let mut length = 0;
-    for _ in 0..TAPE {
-        if length >= tape.len() {
-            break;
-        }
-        let read = source.read(&mut tape[length..])?;
-        if read == 0 {
-            break;
-        }
-        length += read;
+    match play(tape, out) {
+        Ok(end) => end,
+        Err(_) => unreachable!(),
     }
-    Ok(length)
+}
+
+// The tape that a source has.
+fn read_tape<R: Read + Drop>(alloc: Global, source: R) -> anyhow::Result<Vec<u8>>
+    ensures { IfOk result (λ tape. IfSome (R.remaining source) (λ all. tape.items ≡ take TAPE all)) }
+{
+    let mut tape = Vec::new(alloc);
+    source.take(TAPE as u64).read_to_end(&mut tape)?;
+    Ok(tape)
+}
+
+// Writes the printout of a tape to a sink.
+fn write_printout<W: Write>(tape: &[u8], out: &mut [u8], sink: &mut W) -> anyhow::Result<()>
+    requires { 80 * TAPE ≤ length out.old }
+    ensures { OnOk result (WritesPrintout tape.now (W.contents sink.old) (W.contents sink.new)) }
+{
+    let end = play_with_room(tape, out);
+    sink.write_all(&out[..end])?;
+    Ok(())
 }
 
 // Plays the tape that a source has.
-fn play_from(rt: &HostRuntime, source: &mut impl Read) -> anyhow::Result<()> {
-    let mut tape = [0u8; TAPE];
-    let length = fill(source, &mut tape)?;
-    let mut out = vec![in rt.alloc(); 0u8; ROOM]?;
-    match play(&tape[0..length], &mut out) {
-        Ok(end) => rt.stdout().write_all(&out[0..end])?,
-        Err(_) => return Err(anyhow!("the printout has no room")),
-    }
-    Ok(())
+fn play_from(rt: &HostRuntime, source: impl Read + Drop) -> anyhow::Result<()> {
+    let tape = read_tape(rt.alloc(), source)?;
+    let mut out = vec![in rt.alloc(); 0u8; 80 * TAPE]?;
+    write_printout(&tape, &mut out, &mut rt.stdout())
 }
 
 // Plays the tape in a file, or says why the file cannot be read.
 fn play_file(rt: &HostRuntime, path: &str) -> anyhow::Result<ExitCode> {
-    match fs::open(rt, path) {
-        Ok(mut file) => play_from(rt, &mut file)?,
+    match File::open(rt, path) {
+        Ok(file) => play_from(rt, file)?,
         Err(error) => {
             eprintln!(rt; "tape: {path} cannot be read: {error}")?;
             return Ok(ExitCode::FAILURE);
@@ -58,10 +66,12 @@ fn play_file(rt: &HostRuntime, path: &str) -> anyhow::Result<ExitCode> {
 
 fn run(rt: &HostRuntime) -> anyhow::Result<ExitCode> {
     match env::args(rt)?.nth(1) {
-        Some(path) => return play_file(rt, path.as_str()),
-        None => play_from(rt, &mut rt.stdin())?,
+        Some(path) => play_file(rt, path.as_str()),
+        None => {
+            play_from(rt, rt.stdin())?;
+            Ok(ExitCode::SUCCESS)
+        }
     }
-    Ok(ExitCode::SUCCESS)
 }
 
 fn main(rt: HostRuntime) -> anyhow::Result<ExitCode> {

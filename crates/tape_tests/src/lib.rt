@@ -10,13 +10,9 @@ mod tests {
     // Plays a tape, and compares its printout.
     fn prints(rt: &impl Abort, tape: &[u8], printout: &[u8]) -> Result<(), Fail> {
         let mut out = [0u8; 8_000];
-        match play(tape, &mut out) {
-            Ok(end) => {
-                assert!(rt; &out[0..end] == printout);
-                Ok(())
-            },
-            Err(_) => Err(Fail::new("no room")),
-        }
+        let end = play(tape, &mut out).map_err(|_| Fail::new("no room"))?;
+        assert!(rt; &out[..end] == printout);
+        Ok(())
     }
 
     #[test]

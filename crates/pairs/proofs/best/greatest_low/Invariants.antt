@@ -5,4 +5,4 @@ abbrev pub invariant-loop-a : goal.invariant-loop-a
 invariant-loop-a l = Sofar l.quantity l.places.all l.a-index l.best
 
 abbrev pub invariant-loop-b : goal.invariant-loop-b
-invariant-loop-b l = Within l.quantity l.places.all l.a-index l.first l.b-index l.best
+invariant-loop-b l = Within l.quantity l.places.all l.initial.best l.first l.b-index l.best

@@ -1,14 +1,10 @@
-use Rattle.std.proofs.Common.{◌≡◌, ◌-◌, length}
-use Rattle.register.specs.Page.{page}
-use Rattle.player.proofs.Playing.{Turning}
+use Rattle.std.proofs.Common.{length}
+use Rattle.player.specs.Steps.{player}
+use Rattle.player.proofs.Playing.{Playing}
 use Rattle.player.proofs.play.play_on.Given as goal
 
 abbrev pub invariant-loop-frame : goal.invariant-loop-frame
-invariant-loop-frame g l =
-    Turning (g.S.Stage.meaning l.initial.channel.stage) l.initial.channel.number l.initial.reader.tape.now l.initial.out l.reader.position l.at l.pending (page l.channel.register) l.out
-    × (l.reader.tape.now ≡ l.initial.reader.tape.now)
-    × (l.channel.stage ≡ l.initial.channel.stage)
-    × (l.channel.number ≡ l.initial.channel.number)
+invariant-loop-frame g l = Playing g.S.Stage.meaning (g.S.Stage.meaning l.fn.stage) l.fn.number l.fn.tape l.initial.out (player l.channel l.pending) l.reader.left.now l.at l.out
 
 abbrev pub decreases-loop-frame : goal.decreases-loop-frame
-decreases-loop-frame g l = length l.initial.reader.tape.now - l.reader.position
+decreases-loop-frame g l = length l.reader.left.now

@@ -1,92 +1,44 @@
-use Rattle.std.proofs.Common.{[], ◌∷◌, take, None, sym, refl, ap, ◌∙◌, subst, arith, w32, SFits, rules}
-use Rattle.std.proofs.lemmas.Int.{to_z-of_z}
-use Rattle.printout.specs.Text.{text}
-use Rattle.frames.specs.Tape.{frame, load, reading}
-use Rattle.frames.specs.Answers.{meaning}
+use Rattle.std.proofs.Common.{[], ◌∷◌, None, sym, subst, rules}
 use Rattle.book.specs.declared.call.Call.TheVariants as call
-use Rattle.register.specs.Page.{page}
-use Rattle.player.specs.Lines.{telling}
-use Rattle.player.specs.Script.{before, script}
-use Rattle.player.specs.Steps.{Made, Reached, brings}
-use Rattle.player.proofs.Reaching.{made_on, called, simple, owed_few, rest_later}
+use Rattle.frames.specs.Tape.{frame}
+use Rattle.frames.specs.Answers.{meaning as says}
+use Rattle.printout.specs.Text.{text}
+use Rattle.player.specs.Steps.{player, Made, Deals, idle}
+use Rattle.player.proofs.Frames.{stops}
+use Rattle.player.proofs.Reaching.{both, deals, read, abandoned, closed}
 use Rattle.player.proofs.turn.turn.Goals as goal
 
-pub returns-in-Reading : goal.returns-in-Reading
-returns-in-Reading g c =
-    let e = c.in-Reading.is in
-    let f : SFits w32 c.in-Reading.reading = search rules in
-    let here = c.read.ensures in
-    record {
-      number = here.number;
-      stage = here.stage;
-      rest = here.rest;
-      after = here.after;
-      room = omega (arith, here.room, ap (λ f. brings (meaning f)) e);
-      run = λ all ss k reached. here.run all ss k
-          (subst (λ x. Reached (g.S.Stage.meaning c.args.channel.now.stage) c.args.channel.now.number all c.args.pending (frame (reading x) k ∷ ss) (page c.args.channel.now.register) (take c.args.at c.args.out.now)) (sym (to_z-of_z w32 c.in-Reading.reading f))
-          (subst (λ f. Reached (g.S.Stage.meaning c.args.channel.now.stage) c.args.channel.now.number all c.args.pending (frame (meaning f) k ∷ ss) (page c.args.channel.now.register) (take c.args.at c.args.out.now)) e reached));
-    }
+pub returns-in_default-clause-run : goal.returns-in_default-clause-run
+returns-in_default-clause-run g c =
+    let asked = c.ask-pending in
+    let now = c.args.channel.now in
+    subst (λ o. Deals g.S.Stage.meaning (player now o) (says c.args.frame) (player asked.new.channel asked.result.0) (text asked.result.1)) (sym c.in_default.is)
+    (deals g.S.Stage.meaning now asked.new.channel asked.result.0 asked.result.1 (says c.args.frame) asked.ensures.asked)
 
-pub returns-in-Abort : goal.returns-in-Abort
-returns-in-Abort g c =
-    let e = c.in-Abort.is in
-    let here = c.give_up.ensures in
-    record {
-      number = here.number;
-      stage = here.stage;
-      rest = here.rest;
-      after = here.after;
-      room = omega (arith, here.room, ap (λ f. brings (meaning f)) e);
-      run = λ all ss k reached. here.run all ss k (subst (λ f. Reached (g.S.Stage.meaning c.args.channel.now.stage) c.args.channel.now.number all c.args.pending (frame (meaning f) k ∷ ss) (page c.args.channel.now.register) (take c.args.at c.args.out.now)) e reached);
-    }
+pub returns-in-Reading-clause-run : goal.returns-in-Reading-clause-run
+returns-in-Reading-clause-run g c =
+    let x = c.in-Reading.reading in
+    let p = c.in-Some.point in
+    let now = c.args.channel.now in
+    let made : Made g.S.Stage.meaning now (call.File p.number p.serial x) [] c.file.new.channel None c.file.result = search rules in
+    subst (λ f. Deals g.S.Stage.meaning (player now c.args.pending) (says f) (idle c.file.new.channel) (text c.file.result)) (sym c.in-Reading.is)
+    (read g.S.Stage.meaning (player now c.args.pending) p c.in-Some.is c.file.new.channel c.file.result x made)
 
-pub returns-in-Load : goal.returns-in-Load
-returns-in-Load g c =
-    let x = c.in-Load.argument in
-    let f : SFits w32 x = search rules in
-    let e = c.in-Load.is in
-    let first = c.interrupt-at.ensures in
-    let out = c.interrupt-at.new.out in
-    let channel = c.interrupt-at.new.channel in
-    let point = c.load-point.result.0 in
-    let line = c.load-point.result.1 in
-    let there = page c.load-point.new.channel.register in
-    record {
-      number = c.load-point.ensures.number ∙ first.number;
-      stage = c.load-point.ensures.stage ∙ first.stage;
-      rest = c.put_line.ensures.rest ∙ rest_later out c.args.out.now c.interrupt-at.result c.put_line.result c.put_line.ensures.after first.rest;
-      after = omega (arith, first.after, c.put_line.ensures.after);
-      room = omega (arith, first.room, c.put_line.ensures.room, owed_few point, ap (λ f. brings (meaning f)) e);
-      run = λ all ss k reached.
-          made_on (g.S.Stage.meaning c.args.channel.now.stage) c.args.channel.now.number all None point (frame (load x) k ∷ ss) ss (page channel.register) there (take c.interrupt-at.result out) _ (call.Open x) [] line
-          (λ r rs. called (load x) (call.Open x) refl k ss r rs point)
-          (subst (λ n. Made (g.S.Stage.meaning c.args.channel.now.stage) n (page channel.register) (call.Open x) [] there point line) first.number
-          (subst (λ s. Made (g.S.Stage.meaning s) channel.number (page channel.register) (call.Open x) [] there point line) first.stage (subst (λ y. Made (g.S.Stage.meaning channel.stage) channel.number (page channel.register) (call.Open y) [] there point line) (to_z-of_z w32 x f) c.load-point.ensures.made)))
-          c.put_line.ensures.text
-          (first.run all ss (frame (load x) k) refl (subst (λ f. Reached (g.S.Stage.meaning c.args.channel.now.stage) c.args.channel.now.number all c.args.pending (frame (meaning f) k ∷ ss) (page c.args.channel.now.register) (take c.args.at c.args.out.now)) e reached));
-    }
+pub returns-in-Abort-clause-run : goal.returns-in-Abort-clause-run
+returns-in-Abort-clause-run g c =
+    let now = player c.args.channel.now c.args.pending in
+    subst (λ f. Deals g.S.Stage.meaning now (says f) (idle c.abort.new.channel) (text c.abort.result)) (sym c.in-Abort.is)
+    (abandoned g.S.Stage.meaning now c.in-Some.point c.in-Some.is c.abort.new.channel c.abort.result c.in-Abort.reason.now c.abort.ensures)
 
-pub returns-in_default : goal.returns-in_default
-returns-in_default g c =
-    let m = meaning c.args.frame in
-    let plain = simple m c.ask-line.ensures.plain in
-    let first = c.interrupt-at-in_default.ensures in
-    let out = c.interrupt-at-in_default.new.out in
-    let channel = c.interrupt-at-in_default.new.channel in
-    let line = c.ask-line.result in
-    let there = page c.ask-line.new.channel.register in
-    let asked = plain.call in
-    record {
-      number = c.ask-line.ensures.number ∙ first.number;
-      stage = c.ask-line.ensures.stage ∙ first.stage;
-      rest = c.put_line-in_default.ensures.rest ∙ rest_later out c.args.out.now c.interrupt-at-in_default.result c.put_line-in_default.result c.put_line-in_default.ensures.after first.rest;
-      after = omega (arith, first.after, c.put_line-in_default.ensures.after);
-      room = omega (arith, first.room, c.put_line-in_default.ensures.room, plain.one_line);
-      run = λ all ss k reached.
-          made_on (g.S.Stage.meaning c.args.channel.now.stage) c.args.channel.now.number all None None (frame m k ∷ ss) ss (page channel.register) there (take c.interrupt-at-in_default.result out) _ asked [] line
-          (λ r rs e. called m asked plain.asks k ss r rs None e ∙ ap (λ why. before (asked ∷ []) (text (telling asked why r)) (script None ss rs)) plain.no_reason)
-          (subst (λ n. Made (g.S.Stage.meaning c.args.channel.now.stage) n (page channel.register) asked [] there None line) first.number
-          (subst (λ s. Made (g.S.Stage.meaning s) channel.number (page channel.register) asked [] there None line) first.stage (c.ask-line.ensures.made asked plain.asks)))
-          c.put_line-in_default.ensures.text
-          (first.run all ss (frame m k) (plain.stops k) reached);
-    }
+-- the open point is aborted, and then no point is open
+pub returns-in_default-frame-clause-run : goal.returns-in_default-frame-clause-run
+returns-in_default-frame-clause-run g c =
+    let now = player c.args.channel.now c.args.pending in
+    let between = c.interrupt-aborted.new.channel in
+    let asked = c.ask-pending-in_default-frame in
+    let m = says c.args.frame in
+    λ ss k.
+    both g.S.Stage.meaning now (idle between) (player asked.new.channel asked.result.0) (frame m k ∷ ss) (frame m k ∷ ss) ss (text c.interrupt-aborted.result) (text asked.result.1)
+    (closed g.S.Stage.meaning now c.in-Some.point c.in-Some.is between c.interrupt-aborted.result c.interrupt-aborted.ensures (frame m k) ss
+    (stops c.args.frame c.in_default-frame.not-Reading c.in_default-frame.not-Abort k))
+    (deals g.S.Stage.meaning between asked.new.channel asked.result.0 asked.result.1 m asked.ensures.asked ss k)

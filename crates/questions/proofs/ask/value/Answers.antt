@@ -12,6 +12,6 @@ in_limits a = ⊎_elim (λ below. omega (arith, ints, a.low)) (λ above. omega (
 
 pub returns : goal.returns
 returns c =
-    let s = held c.args.places.now.all in let a = c.in-Some.argument in
-    let same : a.value ≡ c.args.argument = c.in-Some.ensures ∙ to_z-of_z w32 _ c.ranges.argument in
+    let s = held c.args.places.now.all in let a = c.in_ok-argument.argument in
+    let same : a.value ≡ c.args.argument = (rw c.in_ok-argument.ensures.ok_part at c.new.ensures) ∙ to_z-of_z w32 _ c.ranges.argument in
     inr (subst (λ x. NoArgument x → ⊥) same (in_limits a), subst (λ x. TellsBounds (λ l. value_at l x) s c.bounds.result) same c.bounds.ensures)

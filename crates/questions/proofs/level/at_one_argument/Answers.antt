@@ -5,7 +5,7 @@ use Rattle.pairs.specs.Low.{quantity_of}
 use Rattle.places.specs.Held.{held}
 use Rattle.questions.specs.Told.{Bounds, NoBounds}
 use Rattle.questions.specs.Asked.{GreatestLower}
-use Rattle.questions.proofs.OneArgument.{no_slope, no_value, not_here, not_here_turned, value_told}
+use Rattle.questions.proofs.OneArgument.{no_slope, no_value, not_here_turned, value_told}
 use Rattle.questions.proofs.level.at_one_argument.Goals as goal
 
 pub returns-in_default : goal.returns-in_default
@@ -17,7 +17,7 @@ pub returns-in_default-greatest_lower : goal.returns-in_default-greatest_lower
 returns-in_default-greatest_lower c =
     let s = held c.args.places.now.all in let x = c.in-Value.argument.value in
     subst (λ q. NoBounds (quantity_of q) s refusal.OneArgument) (sym c.in-Value.is)
-    (no_value s c.requires.held c.requires.line c.requires.one x (not_here s c.requires.held c.requires.line c.requires.one x c.in_default-greatest_lower.ensures))
+    (no_value s c.requires.held c.requires.line c.requires.one x c.in_default-greatest_lower.ensures.over)
 
 pub returns-in_default-greatest_lower-2 : goal.returns-in_default-greatest_lower-2
 returns-in_default-greatest_lower-2 c =

@@ -1,11 +1,8 @@
-use Rattle.std.proofs.Common.{◌≡◌, ◌+◌, length, ℤ, Option, sym, ap, ◌∙◌, subst, arith, w32, SFits, to_z, of_z, rules}
+use Rattle.std.proofs.Common.{◌≡◌, ◌+◌, length, sym, ap, ◌∙◌, subst, arith, w32, SFits, to_z, of_z, rules}
 use borrow.Author.Differences.{fits_in}
 use Rattle.std.proofs.lemmas.Int.{ints, to_z-of_z}
 use Rattle.exact.specs.declared.argument.Argument.{Argument}
-use Rattle.places.specs.declared.sample.Sample.{Sample}
-use Rattle.pairs.proofs.Sizes.{lower_fits}
-use Rattle.questions.specs.Asked.{Higher}
-use Rattle.questions.proofs.Lowers.{Lowest, lowest_none, lowest_all, lowest_same, lowest_elsewhere, lowest_higher}
+use Rattle.questions.proofs.Lowers.{Lowest, lowest_same, lowest_here, lowest_elsewhere, lowest_all}
 use Rattle.questions.proofs.level.greatest_lower.Goals as goal
 use Rattle.questions.proofs.level.greatest_lower.Goals.{then-sample-argument, else-sample-argument}
 
@@ -15,32 +12,23 @@ same_argument a b e =
     let fb : SFits w32 b.value = fits_in w32 b.value (omega (arith, ints, b.low, b.high)) in
     sym (to_z-of_z w32 _ fa) ∙ ap (to_z w32) e ∙ to_z-of_z w32 _ fb
 
--- the numbers as they are passed
-as_told : (best : Option ℤ) (a : Sample) (v : ℤ) → SFits w32 v → Higher best (to_z w32 (of_z w32 a.set.lower)) v → Higher best a.set.lower (to_z w32 (of_z w32 v))
-as_told best a v fits h =
-    subst (λ r. Higher best a.set.lower r) (sym (to_z-of_z w32 v fits)) (subst (λ z. Higher best z v) (to_z-of_z w32 _ (lower_fits a)) h)
-
-pub loop-place-init : goal.loop-place-init
-loop-place-init c = lowest_none c.args.argument.value c.args.places.now.all
-
 pub loop-place-preserved-in_default : goal.loop-place-preserved-in_default
 loop-place-preserved-in_default c =
-    let ps = c.args.places.now.all in
-    let long : length ps ≡ 64 = search rules in
-    lowest_same c.args.argument.value ps c.loop-place.place-index c.loop-place.best c.loop-place.invariant long c.loop-place-test.true _ (sym c.in_default.ensures)
+    let long : length c.args.places.now.all ≡ 64 = search rules in
+    lowest_same _ _ _ _ c.loop-place.invariant long c.loop-place-test.true _ c.in_default.ensures
 
 pub loop-place-preserved : goal.loop-place-preserved
 loop-place-preserved c =
-    let ps = c.args.places.now.all in let x = c.args.argument in let a = c.in-Some.sample in
-    let long : length ps ≡ 64 = search rules in
-    let Next : Option ℤ → Type 0 = Lowest x.value ps (c.loop-place.place-index + 1) in
+    let long : length c.args.places.now.all ≡ 64 = search rules in
+    let x = c.args.argument in let ps = c.args.places.now.all in let i = c.loop-place.place-index in let a = c.in-Some.sample in
     elim c.if-sample-argument.branch [
-      | then-sample-argument w ↦ subst Next (sym w.best-is)
-          (lowest_higher x.value ps c.loop-place.place-index c.loop-place.best c.loop-place.invariant long c.loop-place-test.true _ a (sym c.in-Some.ensures) _ (same_argument a.argument x w.if-sample-argument.true)
-          (let fits : SFits w32 w.higher.result = search rules in as_told c.loop-place.best a w.higher.result fits w.higher.ensures))
-      | else-sample-argument w ↦ subst Next (sym w.best-is)
-          (lowest_elsewhere x.value ps c.loop-place.place-index c.loop-place.best c.loop-place.invariant long c.loop-place-test.true _ a (sym c.in-Some.ensures) (λ e. w.if-sample-argument.false (ap (of_z w32) e)))
+      | then-sample-argument w ↦ let g = w.greater-best.ensures in let fits : SFits w32 a.set.lower = search rules in
+          subst (Lowest x.value ps (i + 1)) (sym w.best-is)
+          (lowest_here _ _ _ _ c.loop-place.invariant long c.loop-place-test.true _ a c.in-Some.ensures
+          (same_argument a.argument x w.if-sample-argument.true) _ (to_z-of_z w32 _ fits) w.greater-best.result g.value g.first g.second)
+      | else-sample-argument w ↦ subst (Lowest x.value ps (i + 1)) (sym w.best-is)
+          (lowest_elsewhere _ _ _ _ c.loop-place.invariant long c.loop-place-test.true _ a c.in-Some.ensures (λ e. w.if-sample-argument.false (ap (of_z w32) e)))
     ]
 
 pub returns : goal.returns
-returns c = lowest_all c.args.argument.value c.args.places.now.all c.loop-place.place-index c.loop-place.best c.loop-place-test.false c.loop-place.invariant
+returns c = lowest_all _ _ _ _ c.loop-place-test.false c.loop-place.invariant

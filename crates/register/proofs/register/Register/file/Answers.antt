@@ -1,43 +1,25 @@
-use Rattle.std.proofs.Common.{false, get_or, ap, ◌∙◌, arith, w32, rules}
+use Rattle.std.proofs.Common.{false, get_or, ap, ◌∙◌, arith, w32}
 use Rattle.std.proofs.lemmas.Int.{to_z-of_z}
 use Rattle.places.specs.Search.{is_open, held_with}
 use Rattle.places.specs.declared.status.Status.TheVariants.{Open}
-use Rattle.register.specs.Page.{spot}
-use Rattle.register.proofs.Pages.{nowhere, somewhere, files_page, spoils_page, open_after, held_shut}
+use Rattle.register.proofs.Pages.{files_page, files_ends, open_after, held_shut}
 use Rattle.register.proofs.register.Register.file.Goals as goal
 
-pub returns-in_default : goal.returns-in_default
-returns-in_default g c =
-    let none = nowhere c.args.self.now (Open c.args.serial) c.in_default.ensures in
-    record { page = search rules; told = search rules }
+pub invariant_of-self-clause-ended : goal.invariant_of-self-clause-ended
+invariant_of-self-clause-ended g c = let n = open_after c.args.self.now (Open c.args.serial) _ _ (rw c.in_ok-i.ensures.ok_part at c.first.ensures) false (ap is_open c.hold.ensures ∙ held_shut _ _ _) in omega arith
 
-pub invariant_of-self : goal.invariant_of-self
-invariant_of-self g c =
-    let f = somewhere c.args.self.now (Open c.args.serial) c.in-Some.i c.in-Some.ensures in
-    let n = open_after _ _ _ _ f false (ap is_open c.hold.ensures ∙ held_shut _ _ _) in
-    record { long = search rules; few = search rules; given = search rules; ended = omega arith }
+pub invariant_of-self-in-Err-clause-ended : goal.invariant_of-self-in-Err-clause-ended
+invariant_of-self-in-Err-clause-ended g c = let n = open_after c.args.self.now (Open c.args.serial) _ _ (rw c.in_ok-i.ensures.ok_part at c.first.ensures) false (ap is_open c.release.ensures) in omega arith
 
-pub invariant_of-self-in-Err : goal.invariant_of-self-in-Err
-invariant_of-self-in-Err g c =
-    let f = somewhere c.args.self.now (Open c.args.serial) c.in-Some.i c.in-Some.ensures in
-    let n = open_after _ _ _ _ f false (ap is_open c.release.ensures) in
-    record { long = search rules; few = search rules; given = search rules; ended = omega arith }
-
-pub returns-in-Ok : goal.returns-in-Ok
-returns-in-Ok g c =
-    let f = somewhere c.args.self.now (Open c.args.serial) c.in-Some.i c.in-Some.ensures in
-    let m = g.S.Stage.meaning c.args.stage.now in
-    let there = f.there in
-    let fr = c.ranges.reading in
+pub returns-in-Ok-clause-page : goal.returns-in-Ok-clause-page
+returns-in-Ok-clause-page g c =
+    let fits = c.ranges.reading in
     let told = simp to_z-of_z at c.in-Ok.ensures in
-    let held = c.hold.ensures ∙ ap (λ z. held_with z c.in-Ok.set (get_or c.args.self.now.places.all c.in-Some.i c.index-self-i.result)) (to_z-of_z w32 c.args.reading fr) in
-    record { page = files_page _ _ _ m c.args.serial c.args.reading c.in-Ok.set _ f held told; told = search rules }
+    let held = c.hold.ensures ∙ ap (λ z. held_with z c.in-Ok.set (get_or c.args.self.now.places.all c.in_ok-i.i c.index-self-i.result)) (to_z-of_z w32 c.args.reading fits) in
+    files_page c.args.self.now _ (g.S.Stage.meaning c.args.stage.now) c.args.serial c.args.reading c.in-Ok.set _ _ (rw c.in_ok-i.ensures.ok_part at c.first.ensures) held told
 
-pub returns-in-Err : goal.returns-in-Err
-returns-in-Err g c =
-    let f = somewhere c.args.self.now (Open c.args.serial) c.in-Some.i c.in-Some.ensures in
-    let m = g.S.Stage.meaning c.args.stage.now in
-    let there = f.there in
-    let fr = c.ranges.reading in
-    let told = simp to_z-of_z at c.in-Err.ensures in
-    record { page = spoils_page _ _ _ m c.args.serial c.args.reading _ f (ap spot c.release.ensures) told; told = search rules }
+pub returns-in-Ok-clause-told : goal.returns-in-Ok-clause-told
+returns-in-Ok-clause-told g c =
+    let fits = c.ranges.reading in
+    let told = simp to_z-of_z at c.in-Ok.ensures in
+    files_ends c.args.self.now _ (g.S.Stage.meaning c.args.stage.now) c.args.serial c.args.reading c.in-Ok.set (rw c.in_ok-i.ensures.ok_part at c.first.ensures) told
