@@ -50,7 +50,8 @@ impl Bounded {
         self.divisor(low >= 0).floor(low * 1_000_000)
     }
 
-    // The greatest value whose reading can be that low. It rounds up and takes the other divisor: turned round it would be no shorter.
+    // The greatest value whose reading can be that low. It rounds up and takes the other divisor: in one function with the
+    // lower one its proof did not close.
     fn upper_end(&self, reading: i32) -> i64
         ensures { result ≡ upper_end self.now.absolute self.now.relative reading }
     {
@@ -88,6 +89,7 @@ impl Stage for Bounded {
         1
     }
 
+    // Two lines, as those of a step: a trait for what has ends would be a second one beside Stage, with three of its four laws.
     fn ask(&self, reading: i32) -> Result<(i32, i32), NotTaken> {
         let (lower, upper) = self.ends(reading);
         limited(lower, upper, reading)

@@ -77,7 +77,7 @@ pub fn replay<S: Stage>(
 {
     let mut channel = Channel::new(number, stage);
     let count = calls.len().min(answers.len());
-    // By index, since nothing is known of the elements of `iter_mut` behind a `zip`.
+    // By index: with `iter_mut` and `zip` nothing is known of the elements, and the proof did not close.
     for (i, &call) in calls[..count].iter().enumerate() {
         answers[i] = perform(&mut channel, call);
     }

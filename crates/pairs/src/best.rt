@@ -8,7 +8,8 @@ use exact::order::greater;
 use places::places::Places;
 use places::sample::Sample;
 
-// Of all pairs, one whose least is the greatest; none where no pair rises.
+// Of all pairs, one whose least is the greatest; none where no pair rises. What is asked stands beside what it is asked of, since other
+// questions have the places alone.
 pub fn greatest_low(quantity: Quantity, places: &Places) -> Option<Candidate>
     ensures { GreatestLow quantity (held places.now.all) result }
 {

@@ -17,7 +17,7 @@ fn thousandths(fraction: Fraction) -> (i64, Divisor)
     (1000 * fraction.numerator, divisor)
 }
 
-// A least and a greatest fraction in thousandths, rounded outwards.
+// A least and a greatest fraction in thousandths, rounded outwards: a pair that is taken apart at once.
 fn outwards(least: Fraction, greatest: Fraction) -> (i64, i64)
     ensures least { result.0 ≡ rounded_down least }
     ensures greatest { result.1 ≡ rounded_up greatest }

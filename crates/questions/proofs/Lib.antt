@@ -4,5 +4,6 @@ pub mod Chords
 pub mod Breaks
 pub mod Slopes
 pub mod Lowers
+pub mod Higher
 pub mod Extremes
 pub mod OneArgument

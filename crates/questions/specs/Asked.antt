@@ -1,5 +1,5 @@
 -- The bounds of a quantity where all measurements have one argument.
-use Rattle.std.specs.Prelude.{◌≡◌, List, ℤ, ◌≤ℤ◌, Some, None, Option}
+use Rattle.std.specs.Prelude.{◌≡◌, ◌⊎◌, List, ℤ, ◌≤ℤ◌, Some, None, Option}
 use Rattle.std.specs.List.{ContainsAt as Has}
 use Rattle.lines.specs.Sheet.{Measurement}
 
@@ -17,3 +17,9 @@ LowerAt x s (Some v) = (m : Measurement) × Has s m × (m.argument ≡ x) × (m.
 pub record GreatestLower (x : ℤ) (s : List Measurement) (r : Option ℤ) : Type 0 where
   pub reached : LowerAt x s r
   pub over : (m : Measurement) → Has s m → m.argument ≡ x → NotOver m.lower r
+
+-- the greater of the best so far and a number
+pub record Higher (best : Option ℤ) (v r : ℤ) : Type 0 where
+  pub new : v ≤ℤ r
+  pub keeps : (z : ℤ) → NotOver z best → z ≤ℤ r
+  pub origin : (best ≡ Some r) ⊎ (v ≡ r)

@@ -21,10 +21,10 @@ pub(crate) fn at_one_argument(
     requires one { OneArgument (held places.now.all) }
     ensures { TellsBounds (quantity_of quantity) (held places.now.all) result }
 {
-    // Here and below `let .. else` has the refusal beside what is missing: `ok_or` would say no more.
     let Quantity::Value { argument } = quantity else {
         return Err(Refusal::OneArgument);
     };
+    // Here and below `let .. else` has the refusal beside what is missing: `ok_or` would say no more.
     let Some(lower) = greatest_lower(argument, places) else {
         return Err(Refusal::OneArgument);
     };

@@ -12,7 +12,7 @@ fn in_order(a: Sample, b: Sample) -> (Sample, Sample)
     (lesser(a, b), greater(a, b))
 }
 
-// Names two measurements.
+// Names two measurements. Samples go one by one, since each function takes them in an order of its own.
 #[tactic(auto, using(crate::proofs::Serials::names_two))]
 pub(crate) fn two(a: Sample, b: Sample) -> Conflict
     ensures { NamesTwo (measured a) (measured b) result }

@@ -52,7 +52,7 @@ impl Stage for Step {
         1
     }
 
-    // Two lines, as those of a bounded stage: a trait for what has ends would be a second one beside Stage, with the same laws.
+    // Two lines, as those of a bounded stage: a trait for what has ends would be a second one beside Stage, with three of its four laws.
     fn ask(&self, reading: i32) -> Result<(i32, i32), NotTaken> {
         let (lower, upper) = self.ends(reading);
         limited(lower, upper, reading)
