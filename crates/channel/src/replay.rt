@@ -78,8 +78,8 @@ pub fn replay<S: Stage>(
     let mut channel = Channel::new(number, stage);
     let count = calls.len().min(answers.len());
     // By index: with `iter_mut` and `zip` nothing is known of the elements, and the proof did not close.
-    for (i, &call) in calls[..count].iter().enumerate() {
-        answers[i] = perform(&mut channel, call);
+    for i in 0..count {
+        answers[i] = perform(&mut channel, calls[i]);
     }
     channel
 }

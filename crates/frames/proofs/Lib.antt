@@ -1,3 +1,4 @@
 pub mod Lengths
 pub mod Complement
 pub mod Writing
+pub mod Cut

@@ -20,7 +20,7 @@ pub struct Reader<'a> {
 
 impl<'a> Reader<'a> {
     // A reader at the start of a tape. Past 4,096 bytes nothing is read.
-    #[tactic(auto, using(std::proofs::lemmas::List::take_min))]
+    #[tactic(auto, using(crate::proofs::Cut::cut))]
     pub fn new(tape: &'a [u8]) -> Reader<'a>
         ensures left { result.left.now ≡ take 4096 tape.now }
         ensures position { result.position ≡ 0 }

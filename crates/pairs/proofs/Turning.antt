@@ -37,7 +37,7 @@ low_opposed Slope j i h = record { num = omega (arith, linear); den = refl }
 low_opposed (Value x) j i h = record
     { num = omega (arith, linear, least_mirrored j (i.argument -ℤ x.value), least_mirrored i (x.value -ℤ j.argument)); den = refl }
 
-high_opposed : (q : Quantity) (j i : Measurement) (h : Rises j i) → Opposed (high_of q (mirrored j) (mirrored i) h) (low_of q j i h)
+pub high_opposed : (q : Quantity) (j i : Measurement) (h : Rises j i) → Opposed (high_of q (mirrored j) (mirrored i) h) (low_of q j i h)
 high_opposed Slope j i h = record { num = omega (arith, linear); den = refl }
 high_opposed (Value x) j i h = record
     { num = omega (arith, linear, most_mirrored j (i.argument -ℤ x.value), most_mirrored i (x.value -ℤ j.argument)); den = refl }

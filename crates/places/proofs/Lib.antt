@@ -1,3 +1,4 @@
 pub mod Members
 pub mod Turned
 pub mod Rows
+pub mod Counted

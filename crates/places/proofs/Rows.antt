@@ -1,5 +1,5 @@
 -- What a pass over the places has seen of the measurements that they hold.
-use Rattle.std.proofs.Common.{◌≡◌, ℕ, ◌+◌, ◌<◌, ◌≤◌, List, [], ◌∷◌, length, get_or, take, Some, Option, sym, subst}
+use Rattle.std.proofs.Common.{◌≡◌, ℕ, ◌+◌, ◌<◌, ◌≤◌, List, [], ◌∷◌, length, get_or, take, Some, None, Option, sym, subst}
 use Rattle.std.specs.Prelude.{IfSome}
 use Rattle.std.specs.List.{All, ContainsAt as Has}
 use Rattle.std.proofs.lemmas.List.{take_all}
@@ -42,6 +42,10 @@ module _ (P : Measurement → Type 0) where
     -- one place more
     pub row_more : (n : ℕ) (d : Place) (o : Option Sample) → n < length ps → o ≡ sampled (get_or ps n d) → Fits P o → Row P ps n → Row P ps (n + 1)
     row_more n d o lt is here row = each_held (take (n + 1) ps) (All-more (At P) ps n d lt (held_each (take n ps) row) (subst (Fits P) is here))
+
+    -- one place more that holds nothing
+    pub row_same : (n : ℕ) → n < length ps → (d : Place) → sampled (get_or ps n d) ≡ None → Row P ps n → Row P ps (n + 1)
+    row_same n lt d none = row_more n d None lt (sym none) tt
 
     pub row_all : (n : ℕ) → length ps ≤ n → Row P ps n → (m : Measurement) → Has (held ps) m → P m
     row_all n full = subst (λ s. (m : Measurement) → Has (held s) m → P m) (take_all n ps full)

@@ -4,7 +4,6 @@ use mathlib.Core.HLevel.{is_prop→PathP}
 use lib.Dec.{T_prop}
 use lib.Signed.{le_z}
 use Rattle.std.proofs.lemmas.List.{map-append}
-use Rattle.exact.specs.declared.set.UncertaintySet.{UncertaintySet}
 use Rattle.lines.specs.Sheet.{Measurement}
 use Rattle.lines.specs.Mirror.{mirrored}
 use Rattle.places.specs.declared.place.Place.{Place}
@@ -25,10 +24,10 @@ same_measurement a b s x l u = λ i. record {
   ordered = is_prop→PathP (λ i. l i ≤ℤ u i) (λ i. ≤ℤ_prop (l i) (u i)) a.ordered b.ordered i;
 }
 
--- a sample with the opposite set is the mirrored measurement
-pub turned_sample : (a : Sample) (t : UncertaintySet) → (t.lower ≡ neg_ℤ a.set.upper) × (t.upper ≡ neg_ℤ a.set.lower)
-    → measured (record { serial = a.serial; argument = a.argument; set = t }) ≡ mirrored (measured a)
-turned_sample a t o = same_measurement (measured (record { serial = a.serial; argument = a.argument; set = t })) (mirrored (measured a)) refl refl o.0 o.1
+-- a sample of the same serial and argument with the opposite set is the mirrored measurement
+pub turned_sample : (a b : Sample) → b.serial ≡ a.serial → b.argument ≡ a.argument → (b.set.lower ≡ neg_ℤ a.set.upper) × (b.set.upper ≡ neg_ℤ a.set.lower)
+    → measured b ≡ mirrored (measured a)
+turned_sample a b s x o = same_measurement (measured b) (mirrored (measured a)) s (ap (λ y. y.value) x) o.0 o.1
 
 -- places that each hold what the ones of the same index hold, upside down
 pub each_turned : (ps qs : List Place) → length qs ≡ length ps

@@ -72,7 +72,7 @@ sayings_frame bytes k m e = sayings_at bytes ∙ ap (λ s. s ∷ later s bytes) 
 
 -- ---- by what the reader answered
 
-of_frame : (p : ℕ) (s : Said) (m : Meaning) → Ok (Some m) ≡ answer p s → s ≡ frame m (moved s)
+pub of_frame : (p : ℕ) (s : Said) (m : Meaning) → Ok (Some m) ≡ answer p s → s ≡ frame m (moved s)
 of_frame p (frame m' k) m e = cc
 of_frame p s m e = cc
 
@@ -95,7 +95,7 @@ pub record Ends (bytes : List ℕ) (last : Option Line) : Type 0 where
   pub room : takes last ≤ 80 * length bytes
   pub script_is : (ss : List Said) (rs : List Outcome) → script None (said bytes ∷ ss) rs ≡ before [] (told last) done
 
-of_end : (p : ℕ) (s : Said) → Ok None ≡ answer p s → s ≡ ended
+pub of_end : (p : ℕ) (s : Said) → Ok None ≡ answer p s → s ≡ ended
 of_end p ended e = refl
 of_end p s e = cc
 
@@ -106,7 +106,7 @@ at_end p bytes o none told =
     let e = of_end p (said bytes) (ap (λ o. meant (Ok o)) (sym none) ∙ told) in
     record { stops = ap interrupts e; room = omega arith; script_is = λ ss rs. ap (λ s. script None (s ∷ ss) rs) e }
 
-of_refusal : (p : ℕ) (s : Said) (e : Refusal) → Err e ≡ answer p s
+pub of_refusal : (p : ℕ) (s : Said) (e : Refusal) → Err e ≡ answer p s
     → (interrupts s ≡ true) × ((ss : List Said) (rs : List Outcome) → script None (s ∷ ss) rs ≡ before [] (text (Refused (number e))) done)
 unfolding script
 of_refusal p ended e h = absurd (cc)
@@ -120,7 +120,7 @@ of_refusal p unknown e h =
     let same : number e ≡ 12 = ap number gone in
     (refl, λ ss rs. ap (λ n. before [] (text (Refused n)) done) (sym same))
 
-some_left : (p : ℕ) (bytes : List ℕ) (e : Refusal) → Err e ≡ answer p (said bytes) → 1 ≤ length bytes
+pub some_left : (p : ℕ) (bytes : List ℕ) (e : Refusal) → Err e ≡ answer p (said bytes) → 1 ≤ length bytes
 some_left p [] e h = absurd (cc)
 some_left p (b ∷ bytes) e h = omega arith
 

@@ -90,6 +90,10 @@ module _ {S : Type 0} (meaning : S → Meaning) (m : Meaning) (n : ℕ) (tape : 
           prints'.rest ∙ rest_later out' buffer at' at'' prints'.after kept,
         )
 
+-- nothing was printed
+pub nothing : (xs : List ℕ) (p : ℕ) → Prints [] xs p xs p
+nothing xs p = record { text = sym (append-nil (take p xs)); rest = refl; after = omega arith }
+
 -- one text was printed after another
 pub twice : (a b xs ys zs : List ℕ) (p q r : ℕ) → Prints a xs p ys q → Prints b ys q zs r → Prints (a ++ b) xs p zs r
 twice a b xs ys zs p q r f g = record {

@@ -15,7 +15,7 @@ part at out = take (length out - at) (drop at out)
 roomy : (line : Line) (buffer : List ℕ) → 80 ≤ length buffer → length (reason_of line) ≤ 15 → refused line buffer ≡ false
 roomy line buffer h k = grind (arith, nat_tests)
 
-room_there : (line : Line) (out : List ℕ) (at : ℕ) → at + 80 ≤ length out → length (reason_of line) ≤ 15 → refused line (part at out) ≡ false
+pub room_there : (line : Line) (out : List ℕ) (at : ℕ) → at + 80 ≤ length out → length (reason_of line) ≤ 15 → refused line (part at out) ≡ false
 room_there line out at h k = roomy line (part at out) (omega (arith, ap length (take_rest out at), length-drop at out)) k
 
 written : (out t buffer : List ℕ) (at : ℕ) → at ≤ length out → buffer ≡ t ++ drop (length t) (drop at out)

@@ -28,7 +28,7 @@ before_before cs ds t u s i = record { calls = sym (append_assoc cs ds s.calls) 
 
 module _ (m : Meaning) (n : ℕ) (all : List Said) where
   -- a call was made
-  made_on : (o o' : Option Point) (left left' : List Said) (b b' : Book) (t : List ℕ) (c : Call) (why : List ℕ) (line : Line) (r : Outcome)
+  pub made_on : (o o' : Option Point) (left left' : List Said) (b b' : Book) (t : List ℕ) (c : Call) (why : List ℕ) (line : Line) (r : Outcome)
       → ((r : Outcome) (rs : List Outcome) → o' ≡ handed r → script o left (r ∷ rs) ≡ before (c ∷ []) (text (telling c why r)) (script o' left' rs))
       → Goes m n b c r b' → o' ≡ handed r → text line ≡ text (telling c why r)
       → Reached m n all o left b t → Reached m n all o' left' b' (t ++ text line)
@@ -46,7 +46,7 @@ module _ (m : Meaning) (n : ℕ) (all : List Said) where
       }
 
   -- a frame was refused
-  refused_on : (o o' : Option Point) (left left' : List Said) (b : Book) (t u : List ℕ)
+  pub refused_on : (o o' : Option Point) (left left' : List Said) (b : Book) (t u : List ℕ)
       → ((rs : List Outcome) → script o left rs ≡ before [] u (script o' left' rs))
       → Reached m n all o left b t → Reached m n all o' left' b (t ++ u)
   refused_on o o' left left' b t u step g =

@@ -31,7 +31,7 @@ pub fn play_on<S: Stage + Drop>(
     let mut pending = None;
     // The place in the buffer is a number beside it: a buffer and a place in one struct would need its length kept by every method.
     let mut at = 0;
-    let last = loop {
+    let refusal = loop {
         // A frame, the tape's end, or a frame that is refused, whose line is told last: `let .. else` would part only two of these.
         match reader.next() {
             Ok(Some(frame)) => {
@@ -41,12 +41,15 @@ pub fn play_on<S: Stage + Drop>(
                 at = put_line(&line, out, at);
             }
             Ok(None) => break None,
-            Err(refusal) => break Some(refused(refusal)),
+            Err(refusal) => break Some(refusal),
         }
     };
     let interrupted = close(&mut channel, pending);
-    at = put_told(&interrupted, out, at);
-    Ok(put_told(&last, out, at))
+    let end = put_told(&interrupted, out, at);
+    match refusal {
+        None => Ok(end),
+        Some(refusal) => Ok(put_line(&refused(refusal), out, end)),
+    }
 }
 
 // Plays a tape on channel 0, on the chain of the bench: the same answers.

@@ -34,6 +34,9 @@ module _ (s : List Measurement) (some : SomeHeld s) (line : Consistent s) (one :
           refl,
         ))
 
+    pub not_here : GreatestLower x s None → (m : Measurement) → Has s m → m.argument ≢ x
+    not_here g m at e = g.over m at e
+
     pub not_here_turned : GreatestLower x (map mirrored s) None → (m : Measurement) → Has s m → m.argument ≢ x
     not_here_turned g m at e = g.over (mirrored m) (has_map mirrored s m at) e
 

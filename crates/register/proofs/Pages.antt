@@ -67,13 +67,13 @@ some_by true i n e = (refl, cc)
 some_by false i n e = absurd (let z : ◌≡◌ {A = ℕ} 0 1 = cc in omega arith)
 
 -- what a place that was found is
-record Found (r : Register) (w : Status) (i : ℕ) : Type 0 where
+pub record Found (r : Register) (w : Status) (i : ℕ) : Type 0 where
   pub there : found (seeks w) (page r) ≡ true
   pub first_is : first (seeks w) (page r) ≡ i
   pub inside : i < length r.places.all
   pub is : (d : Place) → has w (get_or r.places.all i d) ≡ true
 
-somewhere : (r : Register) (w : Status) (i : ℕ) → Some i ≡ index w r.places.all → Found r w i
+pub somewhere : (r : Register) (w : Status) (i : ℕ) → Some i ≡ index w r.places.all → Found r w i
 somewhere r w i e =
     let ps = r.places.all in
     let b = some_by (found (seeks w) (page r)) i (first (seeks w) (page r)) (e ∙ index_page w r) in

@@ -1,16 +1,17 @@
 // Plays a tape from standard input, or from the file that is named first, and writes its printout to standard output.
 #![tactic(auto)]
 
-ghost use Rattle.std.specs.Prelude.{◌≡◌, ◌≤◌, ◌*◌, length, take, Ok, OnOk, IfOk, IfSome};
+ghost use Rattle.std.specs.Prelude.{◌≡◌, ◌+◌, ◌*◌, ◌<◌, ◌≤◌, length, take, drop, Ok, OnOk, IfOk, IfSome};
+ghost use Rattle.std.specs.Io.KnownBytes.{Consumes, IsAtEnd};
 ghost use Rattle.player.specs.Played.{Played, bench};
 ghost use Rattle.tape.specs.Program.{WritesPrintout};
 
 use player::play::play;
 use std::alloc::Global;
-use std::env;
 use std::fs::File;
 use std::io::{Read, Write};
 use std::process::ExitCode;
+use std::{env, io};
 
 // How many bytes of a tape are read.
 const TAPE: usize = 4096;
@@ -26,13 +27,32 @@ fn play_with_room(tape: &[u8], out: &mut [u8]) -> usize
     }
 }
 
-// The tape that a source has.
-fn read_tape<R: Read + Drop>(alloc: Global, source: R) -> anyhow::Result<Vec<u8>>
-    ensures { IfOk result (λ tape. IfSome (R.remaining source) (λ all. tape.items ≡ take TAPE all)) }
+// One read into all the room that a tape has from a place on: how many bytes came.
+fn read_at<R: Read>(source: &mut R, tape: &mut [u8], at: usize) -> io::Result<usize>
+    requires { at < length tape.old }
+    ensures front { take at tape.new ≡ take at tape.old }
+    ensures fits { IfOk result (λ n. at + n ≤ length tape.new) }
+    ensures bytes { IfOk result (λ n. Consumes (R.remaining source.old) (R.remaining source.new) (take n (drop at tape.new))) }
+    ensures end { IfOk result (λ n. n ≡ 0 → IsAtEnd (R.remaining source.new)) }
 {
-    let mut tape = Vec::new(alloc);
-    source.take(TAPE as u64).read_to_end(&mut tape)?;
-    Ok(tape)
+    source.read(&mut tape[at..])
+}
+
+// Reads a tape from a source, until it ends or the room is full, and tells how many bytes there are. Each read asks for all the room
+// that is left, since a source of packets loses what is not asked for; one that is interrupted is told, and not tried again.
+fn read_tape<R: Read>(source: &mut R, tape: &mut [u8; TAPE]) -> anyhow::Result<usize>
+    ensures within { IfOk result (λ n. n ≤ TAPE) }
+    ensures bytes { IfOk result (λ n. IfSome (R.remaining source.old) (λ all. take n tape.new ≡ take TAPE all)) }
+{
+    let mut length = 0;
+    while length < TAPE {
+        let read = read_at(source, tape, length)?;
+        if read == 0 {
+            return Ok(length);
+        }
+        length += read;
+    }
+    Ok(length)
 }
 
 // Writes the printout of a tape to a sink.
@@ -45,17 +65,24 @@ fn write_printout<W: Write>(tape: &[u8], out: &mut [u8], sink: &mut W) -> anyhow
     Ok(())
 }
 
-// Plays the tape that a source has.
-fn play_from(rt: &HostRuntime, source: impl Read + Drop) -> anyhow::Result<()> {
-    let tape = read_tape(rt.alloc(), source)?;
-    let mut out = vec![in rt.alloc(); 0u8; 80 * TAPE]?;
-    write_printout(&tape, &mut out, &mut rt.stdout())
+// Plays the tape that a source has, and writes its printout to a sink.
+fn play_through<R: Read, W: Write>(
+    alloc: Global,
+    source: &mut R,
+    sink: &mut W,
+) -> anyhow::Result<()>
+    ensures { OnOk result (IfSome (R.remaining source.old) (λ all. WritesPrintout (take TAPE all) (W.contents sink.old) (W.contents sink.new))) }
+{
+    let mut tape = [0u8; TAPE];
+    let length = read_tape(source, &mut tape)?;
+    let mut out = vec![in alloc; 0u8; 80 * TAPE]?;
+    write_printout(&tape[..length], &mut out, sink)
 }
 
 // Plays the tape in a file, or says why the file cannot be read.
 fn play_file(rt: &HostRuntime, path: &str) -> anyhow::Result<ExitCode> {
     match File::open(rt, path) {
-        Ok(file) => play_from(rt, file)?,
+        Ok(mut file) => play_through(rt.alloc(), &mut file, &mut rt.stdout())?,
         Err(error) => {
             eprintln!(rt; "tape: {path} cannot be read: {error}")?;
             return Ok(ExitCode::FAILURE);
@@ -68,7 +95,7 @@ fn run(rt: &HostRuntime) -> anyhow::Result<ExitCode> {
     match env::args(rt)?.nth(1) {
         Some(path) => play_file(rt, path.as_str()),
         None => {
-            play_from(rt, rt.stdin())?;
+            play_through(rt.alloc(), &mut rt.stdin(), &mut rt.stdout())?;
             Ok(ExitCode::SUCCESS)
         }
     }

@@ -1,15 +1,29 @@
-use Rattle.std.proofs.Common.{◌≡◌, ℕ, List, [], ◌++◌, take, Some, None, Option, ap, ◌∙◌, subst}
+use Rattle.std.proofs.Common.{◌≡◌, ◌+◌, length, take, subst, sym, arith, rules}
+use Rattle.std.specs.Io.KnownBytes.{Consumes}
 use Rattle.std.specs.Prelude.{IfSome}
-use Rattle.std.specs.Option.{option_map}
+use Rattle.tape.proofs.Reading.{read_more, read_all, read_full}
 use Rattle.tape.proofs.read_tape.Goals as goal
 
--- what is read of known bytes into an empty vector, up to a limit
-up_to : (o : Option (List ℕ)) (n : ℕ) (before after : List ℕ) → before ≡ [] → IfSome (option_map (take n) o) (λ xs. after ≡ before ++ xs) → IfSome o (λ all. after ≡ take n all)
-up_to None n before after e h = tt
-up_to (Some all) n before after e h = h ∙ ap (λ b. b ++ take n all) e
+pub loop-length-preserved : goal.loop-length-preserved
+loop-length-preserved g c =
+    let i = c.loop-length.invariant in let e = c.in_ok-read.ensures in
+    let long : length c.read_at.new.tape ≡ 4096 = search rules in
+    (omega (arith, e.fits, long), long, read_more _ _ _ c.loop-length.length c.in_ok-read.read c.loop-length.tape c.read_at.new.tape c.read_at.ensures.front i.2 e.bytes)
 
-pub returns : goal.returns
-returns g c =
-    subst (λ n. IfSome (g.R.Read.remaining c.args.source) (λ all. c.read_to_end.new.buf.items ≡ take n all)) c.take.ensures.limit
-    (subst (λ s. IfSome (g.R.Read.remaining s) (λ all. c.read_to_end.new.buf.items ≡ take c.take.result.limit all)) c.take.ensures.inner
-    (up_to (g.R.Read.remaining c.take.result.inner) c.take.result.limit c.new-tape.result.items c.read_to_end.new.buf.items c.new-tape.ensures.items c.in_ok-read_to_end.ensures.bytes))
+pub returns-clause-bytes : goal.returns-clause-bytes
+returns-clause-bytes g c =
+    let i = c.loop-length.invariant in
+    let full : c.loop-length.length ≡ 4096 = omega (arith, i.0, c.loop-length-test.false) in
+    subst (λ n. IfSome (g.R.Read.remaining c.args.source.now) (λ all. take n c.loop-length.tape ≡ take 4096 all)) (sym full)
+    (read_full _ (g.R.Read.remaining c.loop-length.source) 4096 c.loop-length.tape i.1
+    (subst (λ n. Consumes (g.R.Read.remaining c.args.source.now) (g.R.Read.remaining c.loop-length.source) (take n c.loop-length.tape)) full i.2))
+
+pub returns-then-read-eq0-clause-bytes : goal.returns-then-read-eq0-clause-bytes
+returns-then-read-eq0-clause-bytes g c =
+    let i = c.loop-length.invariant in let e = c.in_ok-read.ensures in
+    let n = c.loop-length.length in let tape = c.read_at.new.tape in
+    let none = c.if-read-eq0.true in
+    let same : n + c.in_ok-read.read ≡ n = omega (arith, none) in
+    read_all _ (g.R.Read.remaining c.read_at.new.source) n 4096 tape i.0
+    (subst (λ k. Consumes (g.R.Read.remaining c.args.source.now) (g.R.Read.remaining c.read_at.new.source) (take k tape)) same
+    (read_more _ _ _ n c.in_ok-read.read c.loop-length.tape tape e.front i.2 e.bytes)) (e.end none)
